@@ -1,3 +1,10 @@
 pub mod Fronts
+pub mod Keeping
 pub mod Naming
+pub mod Filling
+pub mod FirstFit
+pub mod Periods
+pub mod Placing
+pub mod Plans
+pub mod Rounding
 pub mod Rowing

@@ -3,7 +3,7 @@ use mathlib.Core.Path.{_≡_, refl, sym, ap, subst, _∙_}
 use mathlib.Core.Logic.{_⊎_, inl, inr, ⊎-elim}
 use mathlib.Core.Bool.{Bool, true, false, cond, _&&_, _||_}
 use mathlib.Core.List.{List, [], _∷_, _++_}
-use Prim.Native.Nat.{ℕ, _+_, _≤_, _<_}
+use Prim.Native.Nat.{ℕ, suc, _+_, _≤_, _<_}
 use native.Mathlib.Omega.{arith}
 use lib.Dec.{leb, ltb, eqb}
 use lib.ListN.{length, getD, set, take, drop}
@@ -11,7 +11,7 @@ use borrow.Author.Count.{below-more}
 use Rattle.std.specs.declared.option.Option.the-variants.{Some, None}
 use Rattle.std.specs.shelf.Lists.{leading}
 use Rattle.std.proofs.shelf.Lists.{length-set, take-more, take-more-set, getD-set-same, getD-set-other}
-use Rattle.std.proofs.shelf.Sums.{leading-drop-yes, leading-drop-no}
+use Rattle.std.proofs.shelf.Sums.{leading-drop-yes, leading-drop-no, leading-le-length}
 use Rattle.std.proofs.shelf.Tests.{and-from, and-left, and-right, or-from, le-leb, lt-leb, lt-ltb, le-ltb, ne-eqb, cond-true, cond-false}
 use Rattle.plan.specs.declared.refusal.RowRefusal.the-variants.{NameLength, NameByte}
 use Rattle.plan.specs.Rows.{printable, name-refusal}
@@ -47,8 +47,17 @@ name-bad t bs i c some short l bad =
     ∙ cond-true (ltb (leading printable t) (length t)) (Some (NameByte (leading printable t))) None (lt-ltb (leading printable t) (length t) (omega arith))
     ∙ ap (λ k. Some (NameByte k)) n
 
+-- a text of printable bytes is a name
+pub name-clean : (t : List ℕ) → 0 < length t → length t ≤ 16 → leading printable t ≡ length t → name-refusal t ≡ None
+name-clean t some short all =
+    cond-false (eqb (length t) 0 || ltb 16 (length t)) (Some NameLength) (cond (ltb (leading printable t) (length t)) (Some (NameByte (leading printable t))) None) (fitting t some short)
+    ∙ cond-false (ltb (leading printable t) (length t)) (Some (NameByte (leading printable t))) None (le-ltb (leading printable t) (length t) (omega arith))
+
+pub leading-all : (p : ℕ → Bool) (xs : List ℕ) → ((k : ℕ) → k < length xs → p (getD xs k 0) ≡ true) → leading p xs ≡ length xs
+leading-all p [] h = refl
+leading-all p (x ∷ xs) h =
+    cond-true (p x) (1 + leading p xs) 0 (h 0 (omega arith)) ∙ omega (arith, leading-all p xs (λ k l. h (suc k) (omega arith)))
+
 -- a text that is copied whole is a name
 pub name-good : (t bs : List ℕ) (i : ℕ) → Copied t bs i → 0 < length t → length t ≤ 16 → length t ≤ i → name-refusal t ≡ None
-name-good t bs i c some short all =
-    cond-false (eqb (length t) 0 || ltb 16 (length t)) (Some NameLength) (cond (ltb (leading printable t) (length t)) (Some (NameByte (leading printable t))) None) (fitting t some short)
-    ∙ cond-false (ltb (leading printable t) (length t)) (Some (NameByte (leading printable t))) None (le-ltb (leading printable t) (length t) (omega (arith, c .passed)))
+name-good t bs i c some short all = name-clean t some short (omega (arith, c .passed, leading-le-length printable t))

@@ -2,7 +2,7 @@
 ghost use mathlib.Core.Path.{_≡_};
 ghost use mathlib.Core.Bool.{true};
 ghost use Prim.Native.Nat.{ℕ, _<_, _≤_};
-ghost use lib.ListN.{getD, take};
+ghost use lib.ListN.{length, getD, take};
 ghost use Rattle.std.specs.declared.option.Option.the-variants.{Some, None};
 ghost use Rattle.std.specs.declared.result.Result.the-variants.{Ok, Err};
 ghost use Rattle.plan.specs.Rows.{printable, name-refusal};
@@ -16,6 +16,7 @@ pub const NAME_BYTES: usize = 16;
 pub struct Name {
     bytes: [u8; NAME_BYTES],
     len: u8,
+    ghost wide: { length bytes ≡ 16 },
     ghost some: { 1 ≤ len },
     ghost short: { len ≤ 16 },
     ghost clean: { (k : ℕ) → k < len → printable (getD bytes k 0) ≡ true },

@@ -1,9 +1,11 @@
 // A row of a table: one sporadic task.
 ghost use mathlib.Core.Path.{_≡_};
-ghost use Prim.Native.Nat.{ℕ, _≤_};
+ghost use Prim.Native.Nat.{_*_, _≤_};
 ghost use Rattle.std.specs.declared.option.Option.the-variants.{Some, None};
 ghost use Rattle.std.specs.declared.result.Result.the-variants.{Ok, Err};
 ghost use Rattle.plan.specs.Rows.{number-refusal};
+ghost use Rattle.plan.specs.Method.{full, up};
+use crate::FULL;
 use crate::name::Name;
 use crate::refusal::RowRefusal;
 
@@ -49,6 +51,16 @@ impl Row {
             period: 1,
             name: Name::vacant(),
         }
+    }
+
+    // The share of a processor that the task needs, in millionths, rounded up.
+    pub(crate) fn charge(&self) -> u32
+        ensures is { λ r. ⌜ r ≡ up (now (self .entry) .budget * full) (now (self .entry) .period) ⌝ }
+        ensures light { λ r. ⌜ r ≤ full ⌝ }
+    {
+        let needed = self.budget as u64 * FULL as u64;
+        let period = self.period as u64;
+        ((needed + period - 1) / period) as u32
     }
 
     pub fn budget(&self) -> u32

@@ -5,6 +5,7 @@ ghost use lib.ListN.{length};
 use crate::row::Row;
 
 mod calls;
+mod figures;
 
 // The most rows that a table takes.
 pub const ROWS: usize = 64;

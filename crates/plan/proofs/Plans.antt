@@ -1,0 +1,33 @@
+-- What a plan's memory stands for is what closing its table gives.
+use mathlib.Core.Path.{_≡_, refl, sym, ap, subst, _∙_}
+use mathlib.Core.List.{List, []}
+use Prim.Native.Nat.{ℕ, _≤_}
+use native.Mathlib.Omega.{arith}
+use lib.ListN.{length}
+use Rattle.plan.specs.declared.plan.Plan.{Plan}
+use Rattle.plan.specs.declared.table.Table.{Table}
+use Rattle.plan.specs.declared.verdict.Verdict.{Verdict}
+use Rattle.plan.specs.Closing.{Planned, verdict-of, slot-of, bins-of, loads-of, reserves-of, closed}
+use Rattle.plan.specs.Method.{shortest-of}
+use Rattle.plan.specs.Rows.{Task}
+use Rattle.plan.specs.Laws.{Lawful}
+use Rattle.plan.specs.Plans.{planned}
+use Rattle.plan.specs.Views.{tasks}
+use Rattle.plan.proofs.Keeping.{lawful}
+use Rattle.plan.proofs.Rowing.{tasks-count, rows-kept}
+
+-- plans that agree in every part are equal
+alike : (ts : List Task) (m δ : ℕ) {v v′ : Verdict} {T T′ S S′ : ℕ} {bs bs′ ws ws′ rs rs′ : List ℕ} → v ≡ v′ → T ≡ T′ → S ≡ S′ → bs ≡ bs′ → ws ≡ ws′ → rs ≡ rs′ → _≡_ {A = Planned} (record { tasks = ts; processors = m; delta = δ; verdict = v; shortest = T; slot = S; bins = bs; loads = ws; reserves = rs }) (record { tasks = ts; processors = m; delta = δ; verdict = v′; shortest = T′; slot = S′; bins = bs′; loads = ws′; reserves = rs′ })
+alike ts m δ v T S bs ws rs = cc
+
+pub planned-is : (p : Plan) → planned p ≡ closed (tasks (p .table)) (p .processors) (p .delta)
+planned-is p = alike (tasks (p .table)) (p .processors) (p .delta) (p .judged) (p .least) (p .cut) (p .placed) (p .loaded) (p .reserved)
+
+pub plan-lawful : (p : Plan) → Lawful (planned p)
+plan-lawful p =
+    let t = p .table in
+    subst Lawful (sym (planned-is p)) (lawful (tasks t) (rows-kept t) (p .processors) (p .delta) (omega (arith, tasks-count t, t .few)))
+
+-- a plan over this table for these settings is what closing the table gives
+pub closes : (p : Plan) (t : Table) (m δ : ℕ) → p .table ≡ t → p .processors ≡ m → p .delta ≡ δ → planned p ≡ closed (tasks t) m δ
+closes p t m δ a b c = planned-is p ∙ ap (λ u. closed (tasks u) (p .processors) (p .delta)) a ∙ ap (λ n. closed (tasks t) n (p .delta)) b ∙ ap (closed (tasks t) m) c
