@@ -29,11 +29,11 @@ packs-more cs i c p p′ l room is packs placed loaded counted =
     let front : take i (p .«bin_of») ≡ bins-from [] old = ap (λ n. take n (p .«bin_of»)) (sym many) ∙ packs .placed in
     subst (λ ds. Packs ds p′) (sym next) (record {
       placed = ap (λ n. take n (p′ .«bin_of»)) (length-push old c ∙ ap (λ n. n + 1) many)
-        ∙ ap (take (i + 1)) placed
-        ∙ take-more-set (p .«bin_of») i (place c (take (p .bins) (p .loads))) (omega (arith, p .long))
-        ∙ ap (λ bs. bs ++ place c (take (p .bins) (p .loads)) ∷ []) front
-        ∙ ap (λ b. bins-from [] old ++ b ∷ []) bin
-        ∙ sym (bins-push [] old c);
+          ∙ ap (take (i + 1)) placed
+          ∙ take-more-set (p .«bin_of») i (place c (take (p .bins) (p .loads))) (omega (arith, p .long))
+          ∙ ap (λ bs. bs ++ place c (take (p .bins) (p .loads)) ∷ []) front
+          ∙ ap (λ b. bins-from [] old ++ b ∷ []) bin
+          ∙ sym (bins-push [] old c);
       loaded = loaded ∙ loads;
       counted = counted ∙ ap length loads;
       few = omega (arith, length-push old c, counted, put-short c (take (p .bins) (p .loads)), ap length (packs .loaded), packs .counted, packs .few);

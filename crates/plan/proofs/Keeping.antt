@@ -101,7 +101,7 @@ module _ (ts : List Task) (rows : (i : ℕ) (t : Task) → nth ts i ≡ Some t �
     good-plan good =
         let s = sound ts m δ good in
         let fit : First-fit (charges-of ts) (bins-of ts m δ) (loads-of ts m δ) =
-            subst (λ v. First-fit (charges-of ts) (where-good v (bins-from [] (charges-of ts)) []) (where-good v (loads-from [] (charges-of ts)) [])) (sym good) (first-fit (charges-of ts) charges-light) in
+        subst (λ v. First-fit (charges-of ts) (where-good v (bins-from [] (charges-of ts)) []) (where-good v (loads-from [] (charges-of ts)) [])) (sym good) (first-fit (charges-of ts) charges-light) in
         record {
           processors = s .processors;
           delta = s .delta;
@@ -111,8 +111,8 @@ module _ (ts : List Task) (rows : (i : ℕ) (t : Task) → nth ts i ≡ Some t �
           slot = subst (λ v. Slot (shortest-of ts) δ (where-good v (shortest-of ts / δ) 0)) (sym good) (slot-rounded (shortest-of ts) δ (s .delta .0) (s .long));
           each = length-map (loads-of ts m δ) (reserve-of (slot-of ts m δ) δ);
           reserves = λ q l.
-            subst (λ r. Reserve (slot-of ts m δ) δ (getD (loads-of ts m δ) q 0) r) (sym (getD-map (reserve-of (slot-of ts m δ) δ) (loads-of ts m δ) q 0 0 l))
-            (reserve-rounded (slot-of ts m δ) δ (getD (loads-of ts m δ) q 0) (s .delta .0) (fit .light q));
+              subst (λ r. Reserve (slot-of ts m δ) δ (getD (loads-of ts m δ) q 0) r) (sym (getD-map (reserve-of (slot-of ts m δ) δ) (loads-of ts m δ) q 0 0 l))
+              (reserve-rounded (slot-of ts m δ) δ (getD (loads-of ts m δ) q 0) (s .delta .0) (fit .light q));
         }
 
     pub lawful : length ts ≤ 64 → Lawful (closed ts m δ)

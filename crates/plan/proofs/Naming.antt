@@ -32,8 +32,8 @@ copied-more t bs i c l short clean =
       same = take-more-set bs i b room ∙ ap (λ xs. xs ++ b ∷ []) (c .same) ∙ sym (take-more t i 0 l);
       passed = omega (arith, c .passed, leading-drop-yes printable t i 0 l clean);
       clean = below-more (λ k. printable (getD (set bs i b) k 0) ≡ true) i
-        (λ k h. ap printable (getD-set-other bs i k b 0 (λ s. omega arith)) ∙ c .clean k h)
-        (ap printable (getD-set-same bs i b 0 room) ∙ clean);
+          (λ k h. ap printable (getD-set-other bs i k b 0 (λ s. omega arith)) ∙ c .clean k h)
+          (ap printable (getD-set-same bs i b 0 room) ∙ clean);
     }
 
 fitting : (t : List ℕ) → 0 < length t → length t ≤ 16 → (eqb (length t) 0 || ltb 16 (length t)) ≡ false

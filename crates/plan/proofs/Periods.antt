@@ -27,8 +27,8 @@ shorter-is a p some =
     cond-both (eqb a 0 || ltb p a) p a (Shorter a p)
     (λ e. record { some = some; new = omega arith; old = λ l. ⊎-elim (λ z. absurd (omega (arith, eqb-true a 0 z))) (λ s. omega (arith, ltb-true p a s)) (or-cases (eqb a 0) (ltb p a) e); which = inr refl })
     (λ e. let parts = or-parts (eqb a 0) (ltb p a) e in
-          let nonzero : a ≢ 0 = eqb-false a 0 (parts .0) in
-          record { some = omega arith; new = ltb-false p a (parts .1); old = λ l. omega arith; which = inl refl })
+    let nonzero : a ≢ 0 = eqb-false a 0 (parts .0) in
+    record { some = omega arith; new = ltb-false p a (parts .1); old = λ l. omega arith; which = inl refl })
 
 -- every row has a period
 abbrev pub Timed : List Task → Type 0

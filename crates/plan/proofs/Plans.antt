@@ -7,13 +7,16 @@ use lib.ListN.{length}
 use Rattle.plan.specs.declared.plan.Plan.{Plan}
 use Rattle.plan.specs.declared.table.Table.{Table}
 use Rattle.plan.specs.declared.verdict.Verdict.{Verdict}
-use Rattle.plan.specs.Closing.{Planned, verdict-of, slot-of, bins-of, loads-of, reserves-of, closed}
-use Rattle.plan.specs.Method.{shortest-of}
+use Rattle.plan.specs.declared.verdict.Verdict.the-variants.{Good}
+use Rattle.std.proofs.shelf.Lists.{length-map}
+use Rattle.plan.specs.Closing.{Planned, verdict-of, slot-of, bins-of, loads-of, reserves-of, charges-of, closed}
+use Rattle.plan.specs.Method.{charge, bins-from, shortest-of}
 use Rattle.plan.specs.Rows.{Task}
 use Rattle.plan.specs.Laws.{Lawful}
 use Rattle.plan.specs.Plans.{planned}
 use Rattle.plan.specs.Views.{tasks}
-use Rattle.plan.proofs.Keeping.{lawful}
+use Rattle.plan.proofs.FirstFit.{bins-length}
+use Rattle.plan.proofs.Keeping.{as-good, lawful}
 use Rattle.plan.proofs.Rowing.{tasks-count, rows-kept}
 
 -- plans that agree in every part are equal
@@ -31,3 +34,9 @@ plan-lawful p =
 -- a plan over this table for these settings is what closing the table gives
 pub closes : (p : Plan) (t : Table) (m δ : ℕ) → p .table ≡ t → p .processors ≡ m → p .delta ≡ δ → planned p ≡ closed (tasks t) m δ
 closes p t m δ a b c = planned-is p ∙ ap (λ u. closed (tasks u) (p .processors) (p .delta)) a ∙ ap (λ n. closed (tasks t) n (p .delta)) b ∙ ap (closed (tasks t) m) c
+
+-- a good plan has a bin for each task
+pub bins-count : (p : Plan) → p .verdict ≡ Good → length (bins-of (tasks (p .table)) (p .processors) (p .delta)) ≡ length (tasks (p .table))
+bins-count p good =
+    let ts = tasks (p .table) in
+    ap length (as-good (verdict-of ts (p .processors) (p .delta)) (bins-from [] (charges-of ts)) [] (sym (p .judged) ∙ good)) ∙ bins-length [] (charges-of ts) ∙ length-map ts charge

@@ -6,3 +6,4 @@ pub mod Closing
 pub mod Laws
 pub mod Packs
 pub mod Plans
+pub mod Examples

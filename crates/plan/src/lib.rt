@@ -1,4 +1,5 @@
 // Plans: a table of sporadic tasks, closed for m processors and a parameter delta.
+pub mod examples;
 pub mod name;
 mod packing;
 pub mod plan;

@@ -1,5 +1,6 @@
 // The plan: a closed table with its bins, its slot and its reserves.
 ghost use mathlib.Core.Path.{_≡_};
+ghost use Prim.Native.Nat.{_≤_};
 ghost use lib.ListN.{length, take};
 ghost use Rattle.plan.specs.Method.{shortest-of};
 ghost use Rattle.plan.specs.Closing.{verdict-of, slot-of, bins-of, loads-of, reserves-of};
@@ -9,6 +10,7 @@ use crate::table::Table;
 use crate::verdict::Verdict;
 
 mod closing;
+mod questions;
 
 pub const MOST_PROCESSORS: u8 = 16;
 
@@ -27,6 +29,8 @@ pub struct Plan {
     bin_of: [u8; ROWS],
     loads: [u32; ROWS],
     reserves: [u32; ROWS],
+    ghost few: { bins ≤ 64 },
+    ghost wide: { (length «bin_of» ≡ 64) × (length loads ≡ 64) × (length reserves ≡ 64) },
     ghost judged: { verdict ≡ verdict-of (tasks table) processors delta },
     ghost least: { shortest ≡ shortest-of (tasks table) },
     ghost cut: { slot ≡ slot-of (tasks table) processors delta },

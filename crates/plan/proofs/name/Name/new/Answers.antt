@@ -16,8 +16,7 @@ loop-i-again c =
 pub returns : need.returns
 returns c =
     let t = c .args .text .now in
-    let all : length t ≡ c .loop-i .i = omega arith in
-    (
+    let all : length t ≡ c .loop-i .i = omega arith in (
       name-good t (c .loop-i .bytes) (c .loop-i .i) (c .loop-i .inv) (omega arith) (omega arith) (omega arith),
       ap (λ n. take n (c .loop-i .bytes)) all ∙ c .loop-i .inv .same ∙ take-all (c .loop-i .i) t (omega arith),
     )

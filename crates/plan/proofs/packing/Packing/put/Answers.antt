@@ -9,8 +9,7 @@ use Rattle.plan.proofs.packing.Packing.put.Needs as need
 
 pub ghost-self : need.ghost-self
 ghost-self c =
-    let s = c .args .self .now in
-    (
+    let s = c .args .self .now in (
       omega arith,
       (
         length-set (s .«bin_of») (c .args .task) (c .place-bin .result) ∙ s .long,
@@ -24,8 +23,7 @@ ghost-self-else-bin-self c =
     let p = c .place-bin .result in
     let v = getD (s .loads) p 0 + c .args .charge in
     let l : p < s .bins = omega arith in
-    let fits : v ≤ full = room (c .args .charge) (s .loads) (s .bins) p (omega (arith, s .few, s .wide)) (c .place-bin .ensures .lowest) (omega arith) l in
-    (
+    let fits : v ≤ full = room (c .args .charge) (s .loads) (s .bins) p (omega (arith, s .few, s .wide)) (c .place-bin .ensures .lowest) (omega arith) l in (
       omega arith,
       (length-set (s .«bin_of») (c .args .task) p ∙ s .long, (length-set (s .loads) p v ∙ s .wide, (light-set (s .loads) p v (omega (arith, s .wide)) fits (s .light), tt))),
     )
@@ -35,7 +33,7 @@ returns-then-bin-self c =
     let s = c .args .self .now in
     let p = c .place-bin .result in
     let is : take (s .bins + 1) (set (s .loads) p (c .args .charge)) ≡ put (c .args .charge) (take (s .bins) (s .loads)) =
-        opened (c .args .charge) (s .loads) (s .bins) p (omega (arith, s .few, s .wide)) (c .place-bin .ensures .lowest) (omega arith) (omega (arith, s .wide)) in
+    opened (c .args .charge) (s .loads) (s .bins) p (omega (arith, s .few, s .wide)) (c .place-bin .ensures .lowest) (omega arith) (omega (arith, s .wide)) in
     record {
       placed = ap (λ b. set (s .«bin_of») (c .args .task) b) (c .place-bin .ensures .lowest);
       loaded = is;
@@ -48,7 +46,7 @@ returns-else-bin-self c =
     let p = c .place-bin .result in
     let v = getD (s .loads) p 0 + c .args .charge in
     let is : take (s .bins) (set (s .loads) p v) ≡ put (c .args .charge) (take (s .bins) (s .loads)) =
-        added (c .args .charge) (s .loads) (s .bins) p (omega (arith, s .few, s .wide)) (c .place-bin .ensures .lowest) (omega arith) in
+    added (c .args .charge) (s .loads) (s .bins) p (omega (arith, s .few, s .wide)) (c .place-bin .ensures .lowest) (omega arith) in
     record {
       placed = ap (λ b. set (s .«bin_of») (c .args .task) b) (c .place-bin .ensures .lowest);
       loaded = is;

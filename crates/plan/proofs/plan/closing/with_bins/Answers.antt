@@ -2,6 +2,7 @@ use mathlib.Core.Path.{_≡_, sym, ap, _∙_}
 use mathlib.Core.List.{[], map}
 use Prim.Native.Nat.{_+_, _/_, _<_, _≤_}
 use native.Mathlib.Omega.{arith}
+use borrow.Author.Needs.{needs}
 use lib.ListN.{length, take}
 use Rattle.std.proofs.shelf.Bits.{div-below}
 use Rattle.plan.specs.Method.{shortest-of, reserve-of, loads-from, bins-from}
@@ -32,20 +33,26 @@ ghost-result c =
     let slot : c .args .shortest / δ ≡ slot-of ts m δ = ap (λ n. n / δ) (c .pre .shortest) ∙ sym (as-good v (shortest-of ts / δ) 0 (c .pre .good)) in
     let bins : bins-of ts m δ ≡ bins-from [] cs = as-good v (bins-from [] cs) [] (c .pre .good) in
     let loads : loads-from [] cs ≡ loads-of ts m δ = sym (as-good v (loads-from [] cs) [] (c .pre .good)) in (
-      sym (c .pre .good),
+      p .few,
       (
-        c .pre .shortest,
+        (p .long, p .wide, search needs),
         (
-          slot,
+          sym (c .pre .good),
           (
-            packs .counted ∙ ap length loads,
+            c .pre .shortest,
             (
-              ap (λ n. take n (p .«bin_of»)) (ap length bins ∙ bins-length [] cs) ∙ packs .placed ∙ sym bins,
+              slot,
               (
-                packs .loaded ∙ loads,
+                packs .counted ∙ ap length loads,
                 (
-                  c .reserves-reserves .ensures ∙ ap (λ S. map (reserve-of S δ) (take (p .bins) (p .loads))) slot ∙ ap (map (reserve-of (slot-of ts m δ) δ)) (packs .loaded ∙ loads),
-                  tt,
+                  ap (λ n. take n (p .«bin_of»)) (ap length bins ∙ bins-length [] cs) ∙ packs .placed ∙ sym bins,
+                  (
+                    packs .loaded ∙ loads,
+                    (
+                      c .reserves-reserves .ensures ∙ ap (λ S. map (reserve-of S δ) (take (p .bins) (p .loads))) slot ∙ ap (map (reserve-of (slot-of ts m δ) δ)) (packs .loaded ∙ loads),
+                      tt,
+                    ),
+                  ),
                 ),
               ),
             ),

@@ -16,7 +16,7 @@ loop-task-again c =
     let r = c .index-self-task .result in
     let l : c .loop-task .task < length (tasks t) = omega (arith, tasks-count t) in
     let e : c .period .result ≡ getD (tasks t) (c .loop-task .task) (task-of r) .period =
-        c .period .ensures ∙ ap (λ x. x .period) (sym (c .index-self-task .is)) ∙ ap (λ x. x .period) (sym (tasks-read t (c .loop-task .task) r (omega arith) (c .index-self-task .is) (task-of r))) in
+    c .period .ensures ∙ ap (λ x. x .period) (sym (c .index-self-task .is)) ∙ ap (λ x. x .period) (sym (tasks-read t (c .loop-task .task) r (omega arith) (c .index-self-task .is) (task-of r))) in
     let next = folded-more (λ least (u : Task). shorter least (u .period)) 0 (tasks t) (c .loop-task .task) (task-of r) l in
     c .shorter-least .ensures ∙ ap (λ x. shorter x (c .period .result)) (c .loop-task .inv) ∙ ap (shorter (shortest-of (take (c .loop-task .task) (tasks t)))) e ∙ sym next
 
