@@ -53,6 +53,13 @@ sound ts m δ good =
     let nonzero : length ts ≢ 0 = eqb-false (length ts) 0 (c .0) in
     record { processors = ranged m (a .0); delta = ranged δ (b .0); rows = omega arith; long = ltb-false (shortest-of ts) δ (d .0) }
 
+pub good-or-not : (v : Verdict) → (v ≡ Good) ⊎ (v ≡ Good → ⊥)
+good-or-not Good = inl refl
+good-or-not BadProcessors = inr (λ e. let z : _≡_ {A = ℕ} 0 1 = cc in omega arith)
+good-or-not BadDelta = inr (λ e. let z : _≡_ {A = ℕ} 0 1 = cc in omega arith)
+good-or-not NoRows = inr (λ e. let z : _≡_ {A = ℕ} 0 1 = cc in omega arith)
+good-or-not ShortPeriod = inr (λ e. let z : _≡_ {A = ℕ} 0 1 = cc in omega arith)
+
 not-good : {X : Type 0} (v : Verdict) (x none : X) → (v ≡ Good → ⊥) → where-good v x none ≡ none
 not-good Good x none n = absurd (n refl)
 not-good BadProcessors x none n = refl

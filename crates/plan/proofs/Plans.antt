@@ -1,22 +1,26 @@
 -- What a plan's memory stands for is what closing its table gives.
 use mathlib.Core.Path.{_≡_, refl, sym, ap, subst, _∙_}
+use mathlib.Core.Logic.{⊎-elim}
 use mathlib.Core.List.{List, []}
-use Prim.Native.Nat.{ℕ, _≤_}
+use Prim.Native.Nat.{ℕ, _≤_, _<_}
 use native.Mathlib.Omega.{arith}
-use lib.ListN.{length}
+use lib.ListN.{length, getD, take}
+use Rattle.std.specs.declared.option.Option.the-variants.{Some}
+use Rattle.std.specs.shelf.Maps.{nth}
 use Rattle.plan.specs.declared.plan.Plan.{Plan}
 use Rattle.plan.specs.declared.table.Table.{Table}
 use Rattle.plan.specs.declared.verdict.Verdict.{Verdict}
 use Rattle.plan.specs.declared.verdict.Verdict.the-variants.{Good}
-use Rattle.std.proofs.shelf.Lists.{length-map}
+use Rattle.std.proofs.shelf.Bits.{mul-le}
+use Rattle.std.proofs.shelf.Lists.{length-map, length-take-le, getD-take}
 use Rattle.plan.specs.Closing.{Planned, verdict-of, slot-of, bins-of, loads-of, reserves-of, charges-of, closed}
 use Rattle.plan.specs.Method.{charge, bins-from, shortest-of}
 use Rattle.plan.specs.Rows.{Task}
-use Rattle.plan.specs.Laws.{Lawful}
+use Rattle.plan.specs.Laws.{Good-row, Good-plan, Lawful}
 use Rattle.plan.specs.Plans.{planned}
 use Rattle.plan.specs.Views.{tasks}
 use Rattle.plan.proofs.FirstFit.{bins-length}
-use Rattle.plan.proofs.Keeping.{as-good, lawful}
+use Rattle.plan.proofs.Keeping.{as-good, good-or-not, lawful}
 use Rattle.plan.proofs.Rowing.{tasks-count, rows-kept}
 
 -- plans that agree in every part are equal
@@ -40,3 +44,27 @@ pub bins-count : (p : Plan) → p .verdict ≡ Good → length (bins-of (tasks (
 bins-count p good =
     let ts = tasks (p .table) in
     ap length (as-good (verdict-of ts (p .processors) (p .delta)) (bins-from [] (charges-of ts)) [] (sym (p .judged) ∙ good)) ∙ bins-length [] (charges-of ts) ∙ length-map ts charge
+
+-- no reserve is longer than the slot, which is no longer than the shortest period
+pub reserve-short : (p : Plan) (q : ℕ) → q < p .bins → getD (p .reserves) q 0 ≤ 1000000
+reserve-short p q l = let laws = plan-lawful p in ⊎-elim (λ good. short (laws .rows) (laws .good good)) (λ bad. none (laws .refused bad .loads)) (good-or-not (p .verdict))
+  where
+    many : length (planned p .loads) ≡ p .bins
+    many = length-take-le (p .bins) (p .loads) (omega (arith, p .few, p .wide))
+
+    short : ((i : ℕ) (t : Task) → nth (planned p .tasks) i ≡ Some t → Good-row t) → Good-plan (planned p) → getD (p .reserves) q 0 ≤ 1000000
+    short rows good =
+        let one = good .shortest .one in
+        let r = good .reserves q (omega (arith, many)) in
+        omega (
+          arith,
+          getD-take (p .bins) (p .reserves) q 0 l,
+          r .inside,
+          good .slot .fits,
+          mul-le 1 (p .slot) (p .delta) (p .slot) (good .delta .0) (omega arith),
+          one .3,
+          rows (one .0) (one .1) (one .2) .short,
+        )
+
+    none : planned p .loads ≡ [] → getD (p .reserves) q 0 ≤ 1000000
+    none e = absurd (omega (arith, many, ap length e))

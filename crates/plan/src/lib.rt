@@ -1,4 +1,7 @@
 // Plans: a table of sporadic tasks, closed for m processors and a parameter delta.
+ghost use mathlib.Core.Path.{_≡_};
+ghost use Prim.Native.Nat.{_+_, _-_, _/_, _^_, _<_};
+
 pub mod examples;
 pub mod name;
 mod packing;
@@ -17,3 +20,12 @@ pub use refusal::RowRefusal;
 pub use row::Row;
 pub use table::Table;
 pub use verdict::Verdict;
+
+// n ÷ d, rounded up.
+pub(crate) fn quotient_up(n: u64, d: u64) -> u64
+    requires some { ⌜ 0 < d ⌝ }
+    requires room { ⌜ n + d < 2 ^ 64 ⌝ }
+    ensures { λ r. ⌜ r ≡ (n + d - 1) / d ⌝ }
+{
+    (n + d - 1) / d
+}

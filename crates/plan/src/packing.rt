@@ -1,6 +1,7 @@
 // First-Fit: charges come one after another, and each goes to the lowest bin with room.
 ghost use mathlib.Core.Path.{_≡_};
-ghost use Prim.Native.Nat.{ℕ, _<_, _≤_};
+ghost use Prim.Native.Nat.{ℕ, _+_, _<_, _≤_};
+ghost use lib.Dec.{leb};
 ghost use lib.ListN.{length, getD, take, set};
 ghost use Rattle.plan.specs.Method.{full, place, put};
 use crate::FULL;
@@ -17,6 +18,15 @@ pub(crate) struct Packing {
     ghost long: { length «bin_of» ≡ 64 },
     ghost wide: { length loads ≡ 64 },
     ghost light: { (p : ℕ) → getD loads p 0 ≤ full },
+}
+
+// Whether a bin of this load can take the charge.
+fn has_room(load: u32, charge: u32) -> bool
+    requires load { ⌜ load ≤ full ⌝ }
+    requires charge { ⌜ charge ≤ full ⌝ }
+    ensures { λ r. ⌜ r ≡ leb (load + charge) full ⌝ }
+{
+    load + charge <= FULL
 }
 
 impl Packing {
@@ -38,7 +48,7 @@ impl Packing {
         ensures lowest { λ r. ⌜ r ≡ place charge (take (now (self .entry) .bins) (now (self .entry) .loads)) ⌝ }
     {
         for bin in 0..self.bins {
-            if self.loads[bin as usize] + charge <= FULL {
+            if has_room(self.loads[bin as usize], charge) {
                 return bin;
             }
         }

@@ -7,6 +7,7 @@ ghost use Rattle.plan.specs.Rows.{number-refusal};
 ghost use Rattle.plan.specs.Method.{full, up};
 use crate::FULL;
 use crate::name::Name;
+use crate::quotient_up;
 use crate::refusal::RowRefusal;
 
 // The longest period, in ticks.
@@ -58,9 +59,7 @@ impl Row {
         ensures is { λ r. ⌜ r ≡ up (now (self .entry) .budget * full) (now (self .entry) .period) ⌝ }
         ensures light { λ r. ⌜ r ≤ full ⌝ }
     {
-        let needed = self.budget as u64 * FULL as u64;
-        let period = self.period as u64;
-        ((needed + period - 1) / period) as u32
+        quotient_up(self.budget as u64 * FULL as u64, self.period as u64) as u32
     }
 
     pub fn budget(&self) -> u32

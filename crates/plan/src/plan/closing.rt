@@ -1,7 +1,7 @@
 // Closing a table, and opening it again.
 ghost use mathlib.Core.Path.{_≡_};
 ghost use mathlib.Core.List.{map};
-ghost use Prim.Native.Nat.{_≤_, _<_};
+ghost use Prim.Native.Nat.{_/_, _≤_};
 ghost use lib.ListN.{length, take};
 ghost use Rattle.plan.specs.declared.verdict.Verdict.the-variants.{Good};
 ghost use Rattle.plan.specs.Method.{full, shortest-of, reserve-of};
@@ -14,6 +14,7 @@ use super::MOST_PROCESSORS;
 use super::Plan;
 use crate::FULL;
 use crate::packing::Packing;
+use crate::quotient_up;
 use crate::table::ROWS;
 use crate::table::Table;
 use crate::verdict::Verdict;
@@ -34,6 +35,15 @@ fn judge(processors: u8, delta: u8, rows: u8, shortest: u32) -> Verdict
     }
 }
 
+// The longest slot of which the shortest period has delta.
+fn slot(shortest: u32, delta: u8) -> u32
+    requires shortest { ⌜ shortest ≤ 1000000 ⌝ }
+    requires delta { ⌜ 1 ≤ delta ⌝ }
+    ensures { λ r. ⌜ r ≡ shortest / delta ⌝ }
+{
+    shortest / delta as u32
+}
+
 // The ticks of each slot that a bin of this load gets, rounded up.
 fn reserve(slot: u32, delta: u8, load: u32) -> u32
     requires slot { ⌜ slot ≤ 1000000 ⌝ }
@@ -45,7 +55,7 @@ fn reserve(slot: u32, delta: u8, load: u32) -> u32
     let load = load as u64;
     let wanted = slot as u64 * (delta + 1) * load;
     let part = load + delta * FULL as u64;
-    ((wanted + part - 1) / part) as u32
+    quotient_up(wanted, part) as u32
 }
 
 fn reserves(slot: u32, delta: u8, packing: &Packing) -> [u32; ROWS]
@@ -66,7 +76,7 @@ fn with_bins(table: Table, processors: u8, delta: u8, shortest: u32) -> Plan
     requires shortest { ⌜ shortest ≡ shortest-of (tasks table) ⌝ }
     ensures { λ r. ⌜ (r .table ≡ table) × (r .processors ≡ processors) × (r .delta ≡ delta) ⌝ }
 {
-    let slot = shortest / delta as u32;
+    let slot = slot(shortest, delta);
     let packing = table.first_fit();
     let reserves = reserves(slot, delta, &packing);
     let Packing {

@@ -2,6 +2,7 @@
 ghost use mathlib.Core.Path.{_≡_};
 ghost use lib.ListN.{length};
 ghost use Rattle.std.specs.Options.{mapped};
+ghost use Rattle.std.specs.shelf.Lists.{sum};
 ghost use Rattle.std.specs.shelf.Maps.{nth};
 ghost use Rattle.plan.specs.Closing.{charges-of};
 ghost use Rattle.plan.specs.Plans.{planned};
@@ -97,6 +98,17 @@ impl Plan {
         } else {
             None
         }
+    }
+
+    // The reserves of all bins together.
+    pub fn reserved(&self) -> u32
+        ensures { λ r. ⌜ r ≡ sum (planned (now (self .entry)) .reserves) ⌝ }
+    {
+        let mut ticks = 0;
+        for bin in 0..self.bins as usize {
+            ticks += self.reserves[bin];
+        }
+        ticks
     }
 
     // The shortest period of the table, 0 where it has no rows.

@@ -1,8 +1,7 @@
-use mathlib.Core.Path.{refl}
 use Prim.Native.Nat.{ℕ, _+_, _*_, _≤_}
 use native.Mathlib.Omega.{arith}
 use Rattle.std.proofs.shelf.Bits.{mul-le}
-use Rattle.plan.specs.Method.{full, up, reserve-of}
+use Rattle.plan.specs.Method.{full, up}
 use Rattle.plan.proofs.Rounding.{reserve-rounded}
 use Rattle.plan.proofs.plan.closing.reserve.Needs as need
 
@@ -13,13 +12,15 @@ product S δ W s d w = mul-le (S * (δ + 1)) W 256000000 1000000 (omega (arith, 
 pub mul-wanted-2 : need.mul-wanted-2
 mul-wanted-2 c = let h = product (c .args .slot) (c .args .delta) (c .args .load) (c .pre .slot) (omega arith) (c .pre .load) in record { fits = omega arith }
 
-pub add-result : need.add-result
-add-result c = let h = product (c .args .slot) (c .args .delta) (c .args .load) (c .pre .slot) (omega arith) (c .pre .load) in record { fits = omega arith }
+pub quotient-up-requires : need.quotient-up-requires
+quotient-up-requires c κs =
+    let h = product (c .args .slot) (c .args .delta) (c .args .load) (c .pre .slot) (omega arith) (c .pre .load) in
+    record { some = omega (arith, c .pre .delta); room = omega arith }
 
 pub cast-result : need.cast-result
 unfolding up
-cast-result c = let h = reserve-rounded (c .args .slot) (c .args .delta) (c .args .load) (c .pre .delta) (c .pre .load) in record { fits = omega (arith, h .inside) }
+cast-result c = let h = reserve-rounded (c .args .slot) (c .args .delta) (c .args .load) (c .pre .delta) (c .pre .load) in record { fits = omega (arith, h .inside, c .quotient-up .ensures) }
 
 pub returns : need.returns
 unfolding up
-returns c = refl
+returns c = c .quotient-up .ensures

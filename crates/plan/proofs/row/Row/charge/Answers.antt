@@ -1,4 +1,4 @@
-use mathlib.Core.Path.{refl}
+use mathlib.Core.Path.{_≡_, ap, _∙_}
 use Prim.Native.Nat.{_*_, _≤_}
 use native.Mathlib.Omega.{arith}
 use Rattle.plan.specs.Method.{full, up}
@@ -10,10 +10,11 @@ unfolding up
 cast-result c =
     let s = c .args .self .now in
     let light : up (s .budget * full) (s .period) ≤ full = up-least (s .budget * full) (s .period) full (omega (arith, s .some, s .room)) (omega (arith, s .room)) in
-    record { fits = omega arith }
+    record { fits = omega (arith, c .quotient-up .ensures) }
 
 pub returns : need.returns
 unfolding up
 returns c =
     let s = c .args .self .now in
-    record { is = refl; light = up-least (s .budget * full) (s .period) full (omega (arith, s .some, s .room)) (omega (arith, s .room)) }
+    let light : up (s .budget * full) (s .period) ≤ full = up-least (s .budget * full) (s .period) full (omega (arith, s .some, s .room)) (omega (arith, s .room)) in
+    record { is = c .quotient-up .ensures; light = omega (arith, c .quotient-up .ensures) }
