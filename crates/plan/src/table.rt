@@ -6,6 +6,7 @@ use crate::row::Row;
 
 mod calls;
 mod figures;
+mod questions;
 
 // The most rows that a table takes.
 pub const ROWS: usize = 64;

@@ -1,13 +1,11 @@
-// What can be asked of an open table.
+// What changes an open table.
 ghost use mathlib.Core.Path.{_≡_};
 ghost use mathlib.Core.List.{[], _∷_, _++_};
 ghost use lib.ListN.{length};
-ghost use Rattle.std.specs.Options.{mapped};
-ghost use Rattle.std.specs.shelf.Maps.{nth};
 ghost use Rattle.std.specs.declared.option.Option.the-variants.{Some, None};
 ghost use Rattle.std.specs.declared.result.Result.the-variants.{Ok, Err};
 ghost use Rattle.plan.specs.Rows.{row-refusal};
-ghost use Rattle.plan.specs.Views.{task-of, tasks};
+ghost use Rattle.plan.specs.Views.{tasks};
 use super::ROWS;
 use super::Table;
 use crate::name::Name;
@@ -45,23 +43,5 @@ impl Table {
         ensures { λ _. ⌜ tasks (now (self .exit)) ≡ [] ⌝ }
     {
         self.count = 0;
-    }
-
-    // How many rows there are.
-    pub fn count(&self) -> u8
-        ensures { λ r. ⌜ r ≡ length (tasks (now (self .entry))) ⌝ }
-    {
-        self.count
-    }
-
-    // The row of a task, or none where there is no such task.
-    pub fn row(&self, task: u8) -> Option<Row>
-        ensures { λ r. ⌜ mapped task-of r ≡ nth (tasks (now (self .entry))) task ⌝ }
-    {
-        if task < self.count {
-            Some(self.rows[task as usize])
-        } else {
-            None
-        }
     }
 }

@@ -1,0 +1,1 @@
+// What layouts mean, and why the three layouts keep their laws: definitions and proofs, no program code.
