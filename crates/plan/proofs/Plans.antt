@@ -68,3 +68,7 @@ reserve-short p q l = let laws = plan-lawful p in ⊎-elim (λ good. short (laws
 
     none : planned p .loads ≡ [] → getD (p .reserves) q 0 ≤ 1000000
     none e = absurd (omega (arith, many, ap length e))
+
+-- there are at most as many bins as rows can be
+pub bins-few : (p : Plan) → length (planned p .loads) ≤ 64
+bins-few p = omega (arith, length-take-le (p .bins) (p .loads) (omega (arith, p .few, p .wide)), p .few)

@@ -141,7 +141,7 @@ impl Plan {
         ensures { λ r. ⌜ r ≡ self .table ⌝ }
     {
         let Plan {
-            table,
+            table: closed,
             processors: _,
             delta: _,
             verdict: _,
@@ -152,6 +152,6 @@ impl Plan {
             loads: _,
             reserves: _,
         } = self;
-        table
+        closed
     }
 }
