@@ -72,3 +72,7 @@ reserve-short p q l = let laws = plan-lawful p in ⊎-elim (λ good. short (laws
 -- there are at most as many bins as rows can be
 pub bins-few : (p : Plan) → length (planned p .loads) ≤ 64
 bins-few p = omega (arith, length-take-le (p .bins) (p .loads) (omega (arith, p .few, p .wide)), p .few)
+
+pub reserves-count : (p : Plan) → length (planned p .reserves) ≡ length (planned p .loads)
+reserves-count p =
+    length-take-le (p .bins) (p .reserves) (omega (arith, p .few, p .wide)) ∙ sym (length-take-le (p .bins) (p .loads) (omega (arith, p .few, p .wide)))

@@ -1,0 +1,5 @@
+pub mod Copying
+pub mod Plenty
+pub mod Starting
+pub mod Lawful
+pub mod Serving

@@ -1,0 +1,5 @@
+pub mod Refusals
+pub mod Makes
+pub mod Shared
+pub mod Views
+pub mod Examples
