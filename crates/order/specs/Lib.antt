@@ -1,0 +1,4 @@
+pub mod Bookings
+pub mod Lines
+pub mod Orders
+pub mod Picks
