@@ -8,6 +8,8 @@ use plan::table::ROWS;
 mod making;
 mod serving;
 
+pub use serving::DedicatedLayout;
+
 #[derive(Drop)]
 pub struct Dedicated {
     processors: u8,

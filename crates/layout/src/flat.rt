@@ -9,6 +9,8 @@ use plan::table::ROWS;
 mod making;
 mod serving;
 
+pub use serving::FlatLayout;
+
 #[derive(Drop)]
 pub struct Flat {
     shares: Shares,

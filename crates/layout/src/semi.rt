@@ -9,6 +9,8 @@ use plan::table::ROWS;
 mod making;
 mod serving;
 
+pub use serving::SemiLayout;
+
 #[derive(Drop)]
 pub struct Semi {
     shares: Shares,
