@@ -1,5 +1,7 @@
 // Draws one slot of each layout that a small lab's plan has: a line for each processor, a column for each tick.
 mod chart;
+#[cfg(test)]
+mod tests;
 
 use chart::Chart;
 use chart::ChartDisplay;
