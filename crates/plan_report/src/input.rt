@@ -59,7 +59,7 @@ fn add_line(table: &mut Table, line: &str) -> Result<(), Fault> {
 }
 
 // The table that a text holds.
-pub fn table_of(text: &str) -> Result<Table, BadLine> {
+pub(crate) fn table_of(text: &str) -> Result<Table, BadLine> {
     let mut table = Table::new();
     let mut number = 0usize;
     for line in text.lines() {

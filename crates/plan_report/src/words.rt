@@ -2,7 +2,7 @@
 use plan::RowRefusal;
 use plan::Verdict;
 
-pub fn row_words(refusal: RowRefusal) -> &'static str {
+pub(crate) fn row_words(refusal: RowRefusal) -> &'static str {
     match refusal {
         RowRefusal::NameLength => "the name is not 1 to 16 bytes long",
         RowRefusal::NameByte { at: _ } => "the name has a byte that is not printable ASCII",
@@ -13,7 +13,7 @@ pub fn row_words(refusal: RowRefusal) -> &'static str {
     }
 }
 
-pub fn verdict_words(verdict: Verdict) -> &'static str {
+pub(crate) fn verdict_words(verdict: Verdict) -> &'static str {
     match verdict {
         Verdict::Good => "good",
         Verdict::BadProcessors => "the processors are not 1 to 16",

@@ -4,7 +4,7 @@ ghost use mathlib.Core.Bool.{true, false};
 ghost use Rattle.std.specs.declared.result.Result.the-variants.{Ok, Err};
 ghost use Rattle.plan.specs.Plans.{planned};
 ghost use Rattle.layout_laws.specs.Meaning.{empty};
-ghost use Rattle.layout.specs.Makes.{Spacious, dedicated-of};
+ghost use Rattle.layout.specs.Makes.{Spacious, dedicated-of, Fits};
 ghost use Rattle.layout.specs.Views.{dedicated-view};
 use super::Dedicated;
 use crate::refusal::NotMade;
@@ -40,7 +40,7 @@ impl Dedicated {
 
     // Makes this place the dedicated layout of a plan, or where the plan has none, the empty layout.
     pub fn fill(&mut self, plan: &Plan) -> Result<(), NotMade>
-        ensures { λ r. ⌜ elim r [ Ok u ↦ Spacious (planned (now (plan .entry))) × (dedicated-view (now (self .exit)) ≡ dedicated-of (planned (now (plan .entry)))) | Err e ↦ (Spacious (planned (now (plan .entry))) → ⊥) × (dedicated-view (now (self .exit)) ≡ empty) ] ⌝ }
+        ensures { λ r. ⌜ elim r [ Ok u ↦ Spacious (planned (now (plan .entry))) × (dedicated-view (now (self .exit)) ≡ dedicated-of (planned (now (plan .entry)))) × Fits (planned (now (plan .entry))) (dedicated-view (now (self .exit))) | Err e ↦ (Spacious (planned (now (plan .entry))) → ⊥) × (dedicated-view (now (self .exit)) ≡ empty) ] ⌝ }
     {
         if has_processors(plan) {
             *self = laid(plan);

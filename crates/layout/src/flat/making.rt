@@ -3,7 +3,7 @@ ghost use mathlib.Core.Path.{_≡_};
 ghost use Rattle.std.specs.declared.result.Result.the-variants.{Ok, Err};
 ghost use Rattle.plan.specs.Plans.{planned};
 ghost use Rattle.layout_laws.specs.Meaning.{empty};
-ghost use Rattle.layout.specs.Makes.{Roomy, flat-of};
+ghost use Rattle.layout.specs.Makes.{Roomy, flat-of, Fits};
 ghost use Rattle.layout.specs.Views.{flat-view};
 use super::Flat;
 use crate::refusal::NotMade;
@@ -24,7 +24,7 @@ impl Flat {
 
     // Makes this place the flat layout of a plan, or where the plan has none, the empty layout.
     pub fn fill(&mut self, plan: &Plan) -> Result<(), NotMade>
-        ensures { λ r. ⌜ elim r [ Ok u ↦ Roomy (planned (now (plan .entry))) × (flat-view (now (self .exit)) ≡ flat-of (planned (now (plan .entry)))) | Err e ↦ (Roomy (planned (now (plan .entry))) → ⊥) × (flat-view (now (self .exit)) ≡ empty) ] ⌝ }
+        ensures { λ r. ⌜ elim r [ Ok u ↦ Roomy (planned (now (plan .entry))) × (flat-view (now (self .exit)) ≡ flat-of (planned (now (plan .entry)))) × Fits (planned (now (plan .entry))) (flat-view (now (self .exit))) | Err e ↦ (Roomy (planned (now (plan .entry))) → ⊥) × (flat-view (now (self .exit)) ≡ empty) ] ⌝ }
     {
         match Shares::of(plan) {
             Some(shares) => {

@@ -3,7 +3,7 @@ ghost use mathlib.Core.Path.{_≡_};
 ghost use Rattle.std.specs.declared.result.Result.the-variants.{Ok, Err};
 ghost use Rattle.plan.specs.Plans.{planned};
 ghost use Rattle.layout_laws.specs.Meaning.{empty};
-ghost use Rattle.layout.specs.Makes.{Roomy, semi-of};
+ghost use Rattle.layout.specs.Makes.{Roomy, semi-of, Fits};
 ghost use Rattle.layout.specs.Views.{semi-view};
 use super::Semi;
 use crate::refusal::NotMade;
@@ -32,7 +32,7 @@ impl Semi {
 
     // Makes this place the semi-partitioned layout of a plan, or where the plan has none, the empty layout.
     pub fn fill(&mut self, plan: &Plan) -> Result<(), NotMade>
-        ensures { λ r. ⌜ elim r [ Ok u ↦ Roomy (planned (now (plan .entry))) × (semi-view (now (self .exit)) ≡ semi-of (planned (now (plan .entry)))) | Err e ↦ (Roomy (planned (now (plan .entry))) → ⊥) × (semi-view (now (self .exit)) ≡ empty) ] ⌝ }
+        ensures { λ r. ⌜ elim r [ Ok u ↦ Roomy (planned (now (plan .entry))) × (semi-view (now (self .exit)) ≡ semi-of (planned (now (plan .entry)))) × Fits (planned (now (plan .entry))) (semi-view (now (self .exit))) | Err e ↦ (Roomy (planned (now (plan .entry))) → ⊥) × (semi-view (now (self .exit)) ≡ empty) ] ⌝ }
     {
         match Shares::of(plan) {
             Some(shares) => {
