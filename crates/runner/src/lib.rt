@@ -1,0 +1,11 @@
+// The runner: requests, dones and ticks on a plan and a layout.
+mod job;
+mod jobs;
+pub mod refusal;
+pub mod runner;
+
+pub use refusal::CallRefusal;
+pub use runner::Runner;
+
+// What a row has for a processor that runs nothing.
+pub const IDLE: u8 = 255;
