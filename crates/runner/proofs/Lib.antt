@@ -1,3 +1,4 @@
 pub mod Tables
 pub mod Works
 pub mod Ticking
+pub mod Listed

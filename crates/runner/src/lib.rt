@@ -1,9 +1,11 @@
 // The runner: requests, dones and ticks on a plan and a layout.
 mod job;
 mod jobs;
+pub mod outstanding;
 pub mod refusal;
 pub mod runner;
 
+pub use outstanding::Outstanding;
 pub use refusal::CallRefusal;
 pub use runner::Runner;
 
