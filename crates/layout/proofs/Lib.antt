@@ -3,3 +3,4 @@ pub mod Plenty
 pub mod Starting
 pub mod Lawful
 pub mod Serving
+pub mod Worked

@@ -8,3 +8,4 @@ pub mod Placing
 pub mod Plans
 pub mod Rounding
 pub mod Rowing
+pub mod Worked

@@ -2,3 +2,4 @@ pub mod Refusals
 pub mod Jobs
 pub mod Views
 pub mod Listing
+pub mod Examples

@@ -1,4 +1,5 @@
 // The runner: requests, dones and ticks on a plan and a layout.
+pub mod examples;
 mod job;
 mod jobs;
 pub mod outstanding;

@@ -1,22 +1,6 @@
-use mathlib.Core.Path.{_≡_, refl}
-use Prim.Native.Nat.{ℕ}
-use native.Mathlib.Omega.{arith}
-use Rattle.plan.specs.Method.{up}
-use Rattle.layout_laws.specs.Offset.{offset}
-use Rattle.layout_laws.specs.Shares.{before}
-use Rattle.layout_laws.specs.Semi.{find}
-use Rattle.layout_laws.proofs.Offset.{offset-law}
+use mathlib.Core.Path.{refl}
+use Rattle.layout.proofs.Worked.{worked-layouts}
 use Rattle.layout.proofs.examples.worked_ticks.Needs as need
 
 pub returns : need.returns
-unfolding up offset before find
-returns c = record {
-  number = refl;
-  worked = record {
-    two-processors = record { good = refl; room = omega arith };
-    not-one = λ r. omega (arith, r .room);
-    three-processors = record { good = refl; room = omega arith };
-    in-turn = refl;
-    offset = offset-law;
-  };
-}
+returns c = record { number = refl; worked = worked-layouts }

@@ -1,17 +1,6 @@
-use mathlib.Core.Path.{_≡_, refl, ap}
-use Prim.Native.Nat.{ℕ}
-use native.Mathlib.Omega.{arith}
-use lib.ListN.{getD}
-use Rattle.plan.specs.Method.{up}
+use mathlib.Core.Path.{refl}
+use Rattle.plan.proofs.Worked.{worked}
 use Rattle.plan.proofs.examples.worked_cases.Needs as need
 
 pub returns : need.returns
-unfolding up
-returns c = record {
-  number = refl;
-  worked = record {
-    each = refl;
-    not-one-bin = λ e. let z : _≡_ {A = ℕ} 666668 999999 = ap (λ ws. getD ws 0 0) e in omega arith;
-    not-two-ticks = λ e. let z : _≡_ {A = ℕ} 3 2 = ap (λ ws. getD ws 0 0) e in omega arith;
-  };
-}
+returns c = record { number = refl; worked = worked }
