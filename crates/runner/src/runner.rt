@@ -9,6 +9,7 @@ use crate::jobs::Jobs;
 use plan::Plan;
 
 mod calls;
+mod questions;
 
 // A plan that runs on a layout. A runner is used up by stopping it, and not otherwise.
 pub struct Runner<L> {

@@ -1,7 +1,7 @@
 // The tick of a job table: each served bin runs its next job.
 ghost use mathlib.Core.Path.{_≡_};
-ghost use Prim.Native.Nat.{ℕ, _+_};
-ghost use lib.ListN.{length, getD};
+ghost use Prim.Native.Nat.{ℕ, _+_, _<_};
+ghost use lib.ListN.{length, getD, set};
 ghost use Rattle.schedule.specs.Work.{Work};
 ghost use Rattle.schedule.specs.Steps.{Row, Advanced};
 ghost use Rattle.runner.specs.Jobs.{state, Holds, Same-bins};
@@ -17,6 +17,21 @@ fn blank(row: &mut [u8])
     row.fill(IDLE);
 }
 
+// Names a task for a processor.
+fn name(row: &mut [u8], processor: u8, task: u8)
+    requires { ⌜ processor < length (now row) ⌝ }
+    ensures { λ _. ⌜ now (row .exit) ≡ set (now (row .entry)) processor task ⌝ }
+{
+    row[processor as usize] = task;
+}
+
+// The processor that serves a bin in the tick at the clock, if any does.
+fn server<L: Layout>(layout: &L, clock: u32, bin: u8) -> Option<u8>
+    ensures { λ r. ⌜ r ≡ L·Layout .meaning (now (layout .entry)) .serves clock bin ⌝ }
+{
+    layout.serve(clock, bin)
+}
+
 // Fills the row of the tick at the clock, and takes a tick off each job that runs in it.
 pub(crate) fn run_bins<L: Layout>(layout: &L, clock: u32, jobs: &mut Jobs, row: &mut [u8])
     requires { ⌜ length (now row) ≡ L·Layout .meaning (now layout) .processors ⌝ }
@@ -26,10 +41,10 @@ pub(crate) fn run_bins<L: Layout>(layout: &L, clock: u32, jobs: &mut Jobs, row: 
 {
     blank(row);
     for bin in 0..layout.bins() {
-        if let Some(processor) = layout.serve(clock, bin) {
+        if let Some(processor) = server(layout, clock, bin) {
             if let Some(task) = jobs.next_of(bin) {
                 jobs.work(task);
-                row[processor as usize] = task;
+                name(row, processor, task);
             }
         }
     }

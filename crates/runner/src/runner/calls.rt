@@ -5,15 +5,12 @@ ghost use Rattle.plan.specs.Plans.{planned};
 ghost use Rattle.schedule.specs.State.{Fresh};
 ghost use Rattle.schedule.specs.Steps.{Requested, Ended, Ticked};
 ghost use Rattle.schedule.specs.Promise.{Kept};
-ghost use Rattle.runner.specs.Listing.{Shown};
 ghost use Rattle.runner.specs.Refusals.{answer};
 ghost use Rattle.runner.specs.Views.{work-of, state-of, Same-plan, Row-of};
 use super::Runner;
 use crate::job::Job;
 use crate::jobs::Jobs;
 use crate::jobs::run_bins;
-use crate::outstanding::Outstanding;
-use crate::outstanding::list;
 use crate::refusal::CallRefusal;
 use layout::Layout;
 use layout::TICKS;
@@ -109,21 +106,6 @@ impl<L: Layout> Runner<L> {
         run_bins(&self.layout, self.clock, &mut self.jobs, row);
         self.clock += 1;
         Ok(())
-    }
-
-    // Writes the unfinished jobs into the slots, by deadline and then by task, and answers their number; the slots past them stay. Refused
-    // where there are fewer slots than jobs; then nothing is altered.
-    pub fn outstanding(&self, slots: &mut [Outstanding]) -> Result<usize, CallRefusal>
-        ensures { λ r. ⌜ Shown (state-of (now (self .entry))) (work-of (now (self .entry)) .tasks) (now (slots .entry)) (now (slots .exit)) r ⌝ }
-    {
-        list(&self.jobs, self.tasks, slots)
-    }
-
-    // The ticks that are over.
-    pub fn clock(&self) -> u32
-        ensures { λ r. ⌜ r ≡ state-of (now (self .entry)) .clock ⌝ }
-    {
-        self.clock
     }
 }
 

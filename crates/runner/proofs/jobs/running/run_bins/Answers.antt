@@ -9,10 +9,10 @@ use Rattle.runner.proofs.Ticking.{ran-as, ran-unserved, ran-idle, ran-task, ra
 use Rattle.runner.proofs.jobs.running.run_bins.Needs as need
 use Rattle.runner.proofs.jobs.running.run_bins.Needs.{in-Some·in-Some-next-of, in-Some·in-rest-next-of, in-rest}
 
-pub index-row-processor : need.index-row-processor
-index-row-processor g c =
+pub name-requires : need.name-requires
+name-requires g c κs =
     let m = g .L·Layout .meaning (c .args .layout .now) in
-    let here = g .L·Layout·met .exclusive (c .args .layout .now) .within (c .args .clock) (c .loop-bin .bin) (c .in-Some .processor) (sym (c .serve .ensures) ∙ c .in-Some .is) in
+    let here = g .L·Layout·met .exclusive (c .args .layout .now) .within (c .args .clock) (c .loop-bin .bin) (c .in-Some .processor) (sym (c .server .ensures) ∙ c .in-Some .is) in
     omega (arith, here, c .pre, c .loop-bin .kept .row, c .blank .kept .row)
 
 pub loop-bin-again : need.loop-bin-again
@@ -24,16 +24,16 @@ loop-bin-again g c =
     let row = c .loop-bin .row in
     let js = c .loop-bin .jobs .slots in
     let r = c .loop-bin .inv in
-    let row′ = c .match-serve .row in
-    let js′ = c .match-serve .jobs .slots in
-    elim (c .match-serve .came) [
+    let row′ = c .match-server .row in
+    let js′ = c .match-server .jobs .slots in
+    elim (c .match-server .came) [
       | in-Some·in-Some-next-of w ↦
           let q = w .in-Some .processor in
           let i = w .in-Some-next-of .task in
-          ran-as m t js₀ (b + 1) (set row q i) row′ (set js i (worked (getD js i none))) js′ (w .row-is) (ap (λ (x : Jobs). x .slots) (w .jobs-is) ∙ w .work .ensures)
-          (ran-task m t js₀ b row js r q i (g .L·Layout·met .exclusive (c .args .layout .now)) (sym (c .serve .ensures) ∙ w .in-Some .is) (c .loop-bin .jobs .wide) (w .in-Some-next-of .ensures tt))
+          ran-as m t js₀ (b + 1) (set row q i) row′ (set js i (worked (getD js i none))) js′ (w .row-is ∙ w .name .ensures) (ap (λ (x : Jobs). x .slots) (w .jobs-is) ∙ w .work .ensures)
+          (ran-task m t js₀ b row js r q i (g .L·Layout·met .exclusive (c .args .layout .now)) (sym (c .server .ensures) ∙ w .in-Some .is) (c .loop-bin .jobs .wide) (w .in-Some-next-of .ensures tt))
       | in-Some·in-rest-next-of w ↦ ran-as m t js₀ (b + 1) row row′ js js′ (w .row-is) (ap (λ (x : Jobs). x .slots) (w .jobs-is)) (ran-idle m t js₀ b row js r (w .in-rest-next-of .ensures tt))
-      | in-rest w ↦ ran-as m t js₀ (b + 1) row row′ js js′ (w .row-is) (ap (λ (x : Jobs). x .slots) (w .jobs-is)) (ran-unserved m t js₀ b row js r (sym (c .serve .ensures) ∙ w .in-rest .is))
+      | in-rest w ↦ ran-as m t js₀ (b + 1) row row′ js js′ (w .row-is) (ap (λ (x : Jobs). x .slots) (w .jobs-is)) (ran-unserved m t js₀ b row js r (sym (c .server .ensures) ∙ w .in-rest .is))
     ]
 
 pub returns : need.returns
