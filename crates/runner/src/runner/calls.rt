@@ -115,12 +115,12 @@ impl<L: Layout + Drop> Runner<L> {
         ensures { λ r. ⌜ r ≡ self .plan ⌝ }
     {
         let Runner {
-            plan,
+            plan: given,
             layout: _,
             tasks: _,
             clock: _,
             jobs: _,
         } = self;
-        plan
+        given
     }
 }
