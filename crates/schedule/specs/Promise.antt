@@ -10,7 +10,7 @@ use Rattle.schedule.specs.Work.{Work, Sound}
 use Rattle.schedule.specs.State.{State, Fresh}
 use Rattle.schedule.specs.History.{Asked, request, done, tick, Event, Run, Job, accepted-request, many, clock, deadline, Finished, rows-naming}
 
--- no clock at or past the deadline of an accepted job that is unfinished
+-- a job whose deadline the clock has come to is finished
 abbrev pub On-time : Work → List Event → Type 0
 On-time w es = (i : ℕ) (j : Job es i) → deadline w j ≤ clock es → Finished w j
 
