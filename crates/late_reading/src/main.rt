@@ -1,5 +1,4 @@
-// A reading that is requested in the first tick after its bin's reserve closed, with two nearer deadlines queued ahead of it: from start to
-// finish, call by call.
+// A reading that is requested just as its bin's reserve has closed, behind two that are due sooner: from start to finish, call by call.
 use layout::Flat;
 use layout::FlatLayout;
 use layout::Layout;

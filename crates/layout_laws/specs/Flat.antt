@@ -11,7 +11,7 @@ use Rattle.layout_laws.specs.Offset.{offset}
 use Rattle.layout_laws.specs.Meaning.{Meaning, in-time}
 use Rattle.layout_laws.specs.Shares.{share, before}
 
--- where bin p starts: the sum of the reserves of the bins before it
+-- where bin p starts: at the end of the reserves of the lower bins
 abbrev pub start : List ℕ → ℕ → ℕ
 start rs p = before (share rs) p
 

@@ -12,7 +12,7 @@ use Rattle.plan.specs.Rows.{Task, name-refusal, number-refusal}
 use Rattle.plan.specs.Method.{full, charge}
 use Rattle.plan.specs.Closing.{Planned, charges-of}
 
--- x is the least whole number at or above n ÷ d
+-- x is n ÷ d, or the next whole number above it
 pub record Least-above (n d x : ℕ) : Type 0 where
   pub enough : n ≤ x * d
   pub least : (y : ℕ) → n ≤ y * d → x ≤ y

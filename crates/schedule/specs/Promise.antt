@@ -37,7 +37,7 @@ of-bin w p (request i) = ltb i (w .tasks) && eqb (w .bin i) p
 of-bin w p (done i) = ltb i (w .tasks) && eqb (w .bin i) p
 of-bin w p (tick n) = true
 
--- the ticks, and the requests and dones for one bin's tasks
+-- the ticks, and what was asked for the tasks of one bin
 abbrev pub about : Work → ℕ → List Event → List Event
 about w p [] = []
 about w p (e ∷ es) = cond (of-bin w p (e .asked)) (e ∷ about w p es) (about w p es)

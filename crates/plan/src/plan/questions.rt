@@ -1,4 +1,4 @@
-// What can be asked of a plan. Tasks, bins and processors are numbered from 0.
+// What can be asked of a plan. The numbers of tasks, bins and processors begin at 0.
 ghost use mathlib.Core.Path.{_≡_};
 ghost use lib.ListN.{length};
 ghost use Rattle.std.specs.Options.{mapped};
