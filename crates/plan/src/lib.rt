@@ -1,4 +1,6 @@
 // Plans: a table of sporadic tasks, closed for m processors and a parameter delta.
+#![tactic(auto)]
+
 ghost use Rattle.std.specs.Prelude.{◌≡◌, ◌+◌, ◌-◌, ◌/◌, ◌^◌, ◌<◌};
 
 pub mod examples;
