@@ -1,4 +1,6 @@
 // A booking desk with four slots: tasks are booked for ticks, and are handed out as their ticks come.
+#![tactic(auto)]
+
 ghost use Rattle.std.specs.Prelude.{◌≡◌, min, [], ◌++◌, length, take, drop};
 ghost use Rattle.order.specs.Lines.{held, spare};
 ghost use Rattle.booking_desk.specs.Timetable.{arranged, handed, left_in};

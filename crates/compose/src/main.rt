@@ -1,4 +1,6 @@
 // Makes a plan file: a text on standard input, the file on standard output.
+#![tactic(auto)]
+
 mod bad_line;
 mod calls;
 mod composing;

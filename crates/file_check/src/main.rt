@@ -1,4 +1,6 @@
 // Checks a plan file: `file_check < FILE`.
+#![tactic(auto)]
+
 mod listing;
 mod words;
 

@@ -1,4 +1,6 @@
 // The parts of a plan file that reader and writer share, and why either refuses.
+#![tactic(auto)]
+
 pub mod call;
 pub mod due;
 pub mod fault;

@@ -1,4 +1,6 @@
 // The reader of plan files.
+#![tactic(auto)]
+
 pub mod calls;
 mod cursor;
 pub mod heading;

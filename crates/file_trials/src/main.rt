@@ -1,4 +1,6 @@
 // Holds the reader and the writer of plan files to the answers that a table on standard input tells.
+#![tactic(auto)]
+
 mod making;
 mod trials;
 

@@ -1,4 +1,6 @@
 // A reading that is requested just as its bin's reserve has closed, behind two that are due sooner: from start to finish, call by call.
+#![tactic(auto)]
+
 use layout::{Flat, Layout};
 use plan::{Plan, RowRefusal, Table};
 use runner::{IDLE, Outstanding, Runner};

@@ -1,4 +1,6 @@
 // Layouts: which processor serves a bin in a tick.
+#![tactic(auto)]
+
 pub mod dedicated;
 pub mod examples;
 pub mod fit;

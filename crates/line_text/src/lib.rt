@@ -1,4 +1,6 @@
 // The lines of a listing, as bytes in an area of the caller's.
+#![tactic(auto)]
+
 pub mod line;
 mod measure;
 mod pen;

@@ -1,9 +1,9 @@
 -- First-Fit keeps its laws.
-use Rattle.std.proofs.Common.{◌≡◌, ℕ, zero, suc, ◌+◌, ◌-◌, ◌<◌, ◌≤◌, Bool, true, false, cond, eqb, ltb, leb, ◌⊎◌, List, [], ◌∷◌, ◌++◌, length, get_or, take, sym, refl, ap, ◌∙◌, subst, inl, inr, ⊎_elim, add-one, arith}
+use Rattle.std.proofs.Common.{◌≡◌, ℕ, zero, suc, ◌+◌, ◌-◌, ◌<◌, ◌≤◌, true, false, cond, eqb, leb, ◌⊎◌, List, [], ◌∷◌, ◌++◌, length, get_or, take, sym, refl, ap, ◌∙◌, inl, inr, ⊎_elim, add-one, arith}
 use Rattle.std.proofs.lemmas.List.{take_more, take_all}
 use Rattle.std.proofs.lemmas.Bool.{cond_both, leb-true, leb-false, cases_eq, eq-eqb, ne_eqb, cond-true, cond-false}
 use Rattle.plan.specs.Method.{full, place, put, loads_from, bins_from}
-use Rattle.plan.specs.Laws.{total, brought, FirstFit}
+use Rattle.plan.specs.Laws.{brought, FirstFit}
 
 -- one charge comes to bins
 module _ (c : ℕ) where

@@ -2,7 +2,7 @@
 use Rattle.std.proofs.Common.{◌≡◌, ℕ, zero, suc, ◌+◌, ◌<◌, ◌≤◌, List, [], ◌∷◌, ◌++◌, map, length, get_or, take, set, Some, None, sym, refl, ap, ◌∙◌, arith}
 use Rattle.std.specs.Option.{option_map}
 use Rattle.std.specs.List.{slice_get}
-use Rattle.std.proofs.lemmas.List.{length-map, length-take-le, take_more_set, map_push, get_or-map, get_or-take, get_or_read}
+use Rattle.std.proofs.lemmas.List.{length-map, length-take-le, take_more_set, map_push, get_or-map, get_or-take}
 use Rattle.std.proofs.lemmas.Option.{slice_get-get_or, slice_get_past}
 
 module _ {X Y : Type 0} (f : X → Y) (xs : List X) (n : ℕ) (fits : n ≤ length xs) where

@@ -1,14 +1,14 @@
 -- Every closing keeps the laws.
-use Rattle.std.proofs.Common.{◌≡◌, ℕ, zero, suc, ◌+◌, ◌*◌, ◌/◌, ◌<◌, ◌≤◌, Bool, true, false, cond, ◌&&◌, eqb, ltb, leb, ◌≢◌, ◌⊎◌, List, [], ◌∷◌, map, length, get_or, Some, None, sym, refl, ap, ◌∙◌, subst, inl, inr, ⊎_elim, arith}
+use Rattle.std.proofs.Common.{◌≡◌, ℕ, ◌*◌, ◌/◌, ◌<◌, ◌≤◌, Bool, true, false, cond, eqb, ltb, leb, ◌≢◌, ◌⊎◌, List, [], map, length, get_or, Some, sym, refl, ap, subst, inl, inr, ⊎_elim, arith}
 use Rattle.std.specs.List.{slice_get}
 use Rattle.std.proofs.lemmas.List.{length-map, get_or-map, get_or_past}
 use Rattle.std.proofs.lemmas.Option.{slice_get-get_or}
-use Rattle.std.proofs.lemmas.Bool.{cases_Bool, cases_lt, and_parts, leb-true, eqb-false, ltb-false, cond-true, cond-false}
+use Rattle.std.proofs.lemmas.Bool.{cases_lt, and_parts, leb-true, eqb-false, ltb-false}
 use Rattle.plan.specs.declared.verdict.Verdict.{Verdict}
 use Rattle.plan.specs.declared.verdict.Verdict.TheVariants.{Good, BadProcessors, BadDelta, NoRows, ShortPeriod}
 use Rattle.plan.specs.Rows.{Task}
 use Rattle.plan.specs.Method.{full, charge, shortest_of, loads_from, bins_from, reserve_of}
-use Rattle.plan.specs.Closing.{in_range, verdict_of, where_good, charges_of, slot_of, bins_of, loads_of, reserves_of, closed}
+use Rattle.plan.specs.Closing.{in_range, verdict_of, where_good, charges_of, slot_of, bins_of, loads_of, closed}
 use Rattle.plan.specs.Laws.{GoodRow, FirstFit, Slot, Reserve, GoodPlan, NoPlan, Lawful}
 use Rattle.plan.proofs.FirstFit.{first_fit}
 use Rattle.plan.proofs.Periods.{Timed, shortest_is}

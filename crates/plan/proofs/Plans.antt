@@ -1,5 +1,5 @@
 -- What a plan's memory stands for is what closing its table gives.
-use Rattle.std.proofs.Common.{◌≡◌, ℕ, ◌<◌, ◌≤◌, List, [], length, get_or, take, Some, sym, refl, ap, ◌∙◌, subst, ⊎_elim, arith}
+use Rattle.std.proofs.Common.{◌≡◌, ℕ, ◌<◌, ◌≤◌, List, [], length, get_or, Some, sym, ap, ◌∙◌, subst, ⊎_elim, arith}
 use Rattle.std.specs.List.{slice_get}
 use Rattle.plan.specs.declared.plan.Plan.{Plan}
 use Rattle.plan.specs.declared.table.Table.{Table}
@@ -7,8 +7,8 @@ use Rattle.plan.specs.declared.verdict.Verdict.{Verdict}
 use Rattle.plan.specs.declared.verdict.Verdict.TheVariants.{Good}
 use Rattle.std.proofs.lemmas.Nat.{mul-le}
 use Rattle.std.proofs.lemmas.List.{length-map, length-take-le, get_or-take}
-use Rattle.plan.specs.Closing.{Planned, verdict_of, slot_of, bins_of, loads_of, reserves_of, charges_of, closed}
-use Rattle.plan.specs.Method.{charge, bins_from, shortest_of}
+use Rattle.plan.specs.Closing.{Planned, verdict_of, bins_of, charges_of, closed}
+use Rattle.plan.specs.Method.{charge, bins_from}
 use Rattle.plan.specs.Rows.{Task}
 use Rattle.plan.specs.Laws.{GoodRow, GoodPlan, Lawful}
 use Rattle.plan.specs.Plans.{planned}

@@ -1,7 +1,7 @@
 -- Quotients rounded up and down: charges, reserves, slots.
-use Rattle.std.proofs.Common.{◌≡◌, ℕ, zero, suc, ◌+◌, ◌-◌, ◌*◌, ◌/◌, ◌%◌, ◌<◌, ◌≤◌, sym, refl, ap, ◌∙◌, mod-lt, mul-le-mul_left, arith}
+use Rattle.std.proofs.Common.{ℕ, suc, ◌+◌, ◌-◌, ◌*◌, ◌/◌, ◌<◌, ◌≤◌, mod-lt, mul-le-mul_left, arith}
 use native.Mathlib.Nat.{div-add-mod}
-use Rattle.std.proofs.lemmas.Nat.{div_below, le-div, mul-le, div-add-mod'}
+use Rattle.std.proofs.lemmas.Nat.{div_below, le-div, div-add-mod'}
 use Rattle.plan.specs.Rows.{Task}
 use Rattle.plan.specs.Method.{full, up, charge, reserve_of}
 use Rattle.plan.specs.Laws.{LeastAbove, Slot, Reserve}

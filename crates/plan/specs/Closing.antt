@@ -1,5 +1,5 @@
 -- What closing a table gives.
-use Rattle.std.specs.Prelude.{ℕ, ◌/◌, Bool, true, false, cond, ◌&&◌, List, [], ◌∷◌, map, length, ◌==◌, nat_le, nat_lt}
+use Rattle.std.specs.Prelude.{ℕ, ◌/◌, Bool, cond, ◌&&◌, List, [], map, length, ◌==◌, nat_le, nat_lt}
 use Rattle.plan.specs.declared.verdict.Verdict.{Verdict}
 use Rattle.plan.specs.declared.verdict.Verdict.TheVariants.{Good, BadProcessors, BadDelta, NoRows, ShortPeriod}
 use Rattle.plan.specs.Rows.{Task}

@@ -1,5 +1,5 @@
 -- The numbers of the method: charges, First-Fit bins, the shortest period, reserves.
-use Rattle.std.specs.Prelude.{ℕ, suc, ◌+◌, ◌-◌, ◌*◌, ◌/◌, Bool, true, false, cond, ◌||◌, List, [], ◌∷◌, fold, ◌==◌, nat_le, nat_lt}
+use Rattle.std.specs.Prelude.{ℕ, suc, ◌+◌, ◌-◌, ◌*◌, ◌/◌, cond, ◌||◌, List, [], ◌∷◌, fold, ◌==◌, nat_le, nat_lt}
 use Rattle.plan.specs.Rows.{Task}
 
 -- a whole processor, in millionths

@@ -1,5 +1,5 @@
 -- What a plan's memory stands for.
-use Rattle.std.specs.Prelude.{ℕ, length, take}
+use Rattle.std.specs.Prelude.{length, take}
 use Rattle.plan.specs.declared.plan.Plan.{Plan}
 use Rattle.plan.specs.Closing.{Planned, bins_of}
 use Rattle.plan.specs.Views.{tasks}

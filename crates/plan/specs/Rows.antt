@@ -1,5 +1,5 @@
 -- What a row of a table is, and which rows are refused.
-use Rattle.std.specs.Prelude.{ℕ, Bool, true, false, cond, ◌&&◌, ◌||◌, List, length, Some, None, Option, ◌==◌, nat_le, nat_lt}
+use Rattle.std.specs.Prelude.{ℕ, Bool, cond, ◌&&◌, ◌||◌, List, length, Some, None, Option, ◌==◌, nat_le, nat_lt}
 use Rattle.std.specs.List.{prefix_len}
 use Rattle.plan.specs.declared.refusal.RowRefusal.{RowRefusal}
 use Rattle.plan.specs.declared.refusal.RowRefusal.TheVariants.{NameLength, NameByte, NoBudget, LongPeriod, BudgetAbovePeriod, TableFull}

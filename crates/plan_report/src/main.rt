@@ -1,4 +1,6 @@
 // Reports a plan: `plan_report PROCESSORS DELTA`, with a table of tasks on standard input.
+#![tactic(auto)]
+
 mod input;
 mod report;
 #[cfg(test)]

@@ -1,5 +1,7 @@
 // Plan files: a table of tasks with the settings of its plan, a layout's letter and a list of calls, as bytes. The reader has a crate of its own
 // below, and so have the parts that both share; whoever uses plan files finds all of them here.
+#![tactic(auto)]
+
 mod pen;
 pub mod writing;
 

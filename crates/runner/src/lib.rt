@@ -1,4 +1,6 @@
 // The runner: requests, dones and ticks on a plan and a layout.
+#![tactic(auto)]
+
 pub mod examples;
 mod job;
 mod jobs;

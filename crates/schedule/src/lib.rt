@@ -1,2 +1,4 @@
 // Histories of a runner's calls, and what every run keeps: definitions and proofs.
+#![tactic(auto)]
+
 pub mod examples;

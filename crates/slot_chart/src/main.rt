@@ -1,4 +1,6 @@
 // Draws one slot of each layout that a small lab's plan has: a line for each processor, a column for each tick.
+#![tactic(auto)]
+
 mod chart;
 #[cfg(test)]
 mod tests;

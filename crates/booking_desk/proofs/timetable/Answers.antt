@@ -6,11 +6,11 @@ use Rattle.booking_desk.proofs.timetable.Goals as goal
 
 pub returns : goal.returns
 returns c =
-    let line = c.put-all.new.line in
-    let r = c.put-all.result in
+    let line = c.put_all.new.line in
+    let r = c.put_all.result in
     let n = ap length c.new-line.ensures.free in
-    let p : held line ≡ arranged [] (take r c.args.wanted.now) = c.put-all.ensures.records ∙ ap (λ done. arranged done (take r c.args.wanted.now)) c.new-line.ensures.empty in
-    let q : spare line ≡ drop r c.args.area.now = c.put-all.ensures.free ∙ ap (drop r) c.new-line.ensures.free in
+    let p : held line ≡ arranged [] (take r c.args.wanted.now) = c.put_all.ensures.records ∙ ap (λ done. arranged done (take r c.args.wanted.now)) c.new-line.ensures.empty in
+    let q : spare line ≡ drop r c.args.area.now = c.put_all.ensures.free ∙ ap (drop r) c.new-line.ensures.free in
     let w = take-append-drop line.count line.slots.now in
     let e : line.slots.now ≡ arranged [] (take r c.args.wanted.now) ++ drop r c.args.area.now = cc in
     record { count = omega arith; written = search rules }

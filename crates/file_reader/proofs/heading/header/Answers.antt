@@ -2,15 +2,15 @@ use Rattle.std.proofs.Common.{◌≡◌, ℕ, ◌≤◌, length, get_or, take, d
 use Rattle.file_reader.proofs.Spelling.{header_stands, rest_byte}
 use Rattle.file_reader.proofs.heading.header.Goals as goal
 
-pub returns-then-not-names-layout : goal.returns-then-not-names-layout
-returns-then-not-names-layout c =
+pub returns-then-not-names_layout : goal.returns-then-not-names_layout
+returns-then-not-names_layout c =
     let f = c.args.file.now in
     let l : 8 ≤ length f = search rules in
     let letter = rest_byte f 2 (omega (arith, l)) in
     search rules
 
-pub returns-else-not-names-layout : goal.returns-else-not-names-layout
-returns-else-not-names-layout c =
+pub returns-else-not-names_layout : goal.returns-else-not-names_layout
+returns-else-not-names_layout c =
     let f = c.args.file.now in
     let l : 8 ≤ length f = search rules in
     let processors = rest_byte f 0 (omega (arith, l)) in

@@ -6,11 +6,11 @@ use Rattle.line_text.specs.Texts.{entry}
 use Rattle.line_text.proofs.Entries.{entries_short}
 use Rattle.line_text.proofs.piece.entries.Goals as goal
 
-pub returns-then-is-empty : goal.returns-then-is-empty
-returns-then-is-empty c =
+pub returns-then-is_empty : goal.returns-then-is_empty
+returns-then-is_empty c =
     let row = c.args.row.now in
-    let none : row ≡ [] = nil_from_length row (eqb-true (length row) 0 (sym c.if-is-empty.ensures)) in
+    let none : row ≡ [] = nil_from_length row (eqb-true (length row) 0 (sym c.if-is_empty.ensures)) in
     record { says = ap (flat_map entry) (sym none); short = omega (arith, ap (λ l. length (flat_map entry l)) none) }
 
 pub returns : goal.returns
-returns c = record { says = search rules; short = entries_short c.args.row.now (λ i. let fits = c.type-inv.row i in omega arith) }
+returns c = record { says = search rules; short = entries_short c.args.row.now (λ i. let fits = c.type_inv.row i in omega arith) }

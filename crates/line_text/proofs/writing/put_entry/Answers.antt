@@ -11,5 +11,5 @@ returns-else-task-eq-IDLE c =
     let is = entry_task e c.if-task-eq-IDLE.false in
     record {
       next = omega (arith, ap length is);
-      bytes = placed_then c.args.area.now c.put-at.new.area c.put-number.new.area (32 ∷ []) (digits e) c.args.at c.put-at.result c.put-at.ensures.bytes c.put-number.ensures.bytes c.put-at.ensures.next (omega (arith, c.requires, ap length is)) ∙ ap (placed c.args.area.now c.args.at) (sym is);
+      bytes = placed_then c.args.area.now c.put-at.new.area c.put_number.new.area (32 ∷ []) (digits e) c.args.at c.put-at.result c.put-at.ensures.bytes c.put_number.ensures.bytes c.put-at.ensures.next (omega (arith, c.requires, ap length is)) ∙ ap (placed c.args.area.now c.args.at) (sym is);
     }

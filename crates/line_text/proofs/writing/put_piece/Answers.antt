@@ -10,8 +10,8 @@ pub put-at-requires : goal.put-at-requires
 put-at-requires c =
     omega (arith, c.requires, ap (λ p. length (piece_text p)) c.in-Field.is, length-append c.in-Field.word.now (digits c.in-Field.number))
 
-pub put-number-requires : goal.put-number-requires
-put-number-requires c =
+pub put_number-requires : goal.put_number-requires
+put_number-requires c =
     omega (arith, c.requires, ap (λ p. length (piece_text p)) c.in-Field.is, length-append c.in-Field.word.now (digits c.in-Field.number))
 
 pub returns-in-Nothing : goal.returns-in-Nothing
@@ -29,5 +29,5 @@ returns-in-Field c =
     let long = ap (λ p. length (piece_text p)) c.in-Field.is ∙ length-append word number in
     record {
       next = omega (arith, long);
-      bytes = placed_then area c.put-at.new.area c.put-number.new.area word number c.args.at c.put-at.result c.put-at.ensures.bytes c.put-number.ensures.bytes c.put-at.ensures.next (omega (arith, c.requires, long)) ∙ sym (ap (λ p. placed area c.args.at (piece_text p)) c.in-Field.is);
+      bytes = placed_then area c.put-at.new.area c.put_number.new.area word number c.args.at c.put-at.result c.put-at.ensures.bytes c.put_number.ensures.bytes c.put-at.ensures.next (omega (arith, c.requires, long)) ∙ sym (ap (λ p. placed area c.args.at (piece_text p)) c.in-Field.is);
     }

@@ -4,14 +4,14 @@ use Rattle.line_text.proofs.Pieced.{spelled_length}
 use Rattle.line_text.proofs.Placing.{four_placed}
 use Rattle.line_text.proofs.writing.put_pieces.Goals as goal
 
-pub put-piece-at-requires : goal.put-piece-at-requires
-put-piece-at-requires c = omega (arith, c.requires, spelled_length c.args.pieces.now)
+pub put_piece-at-requires : goal.put_piece-at-requires
+put_piece-at-requires c = omega (arith, c.requires, spelled_length c.args.pieces.now)
 
-pub put-piece-at-requires-2 : goal.put-piece-at-requires-2
-put-piece-at-requires-2 c = omega (arith, c.requires, spelled_length c.args.pieces.now)
+pub put_piece-at-requires-2 : goal.put_piece-at-requires-2
+put_piece-at-requires-2 c = omega (arith, c.requires, spelled_length c.args.pieces.now)
 
-pub put-piece-at-requires-3 : goal.put-piece-at-requires-3
-put-piece-at-requires-3 c = omega (arith, c.requires, spelled_length c.args.pieces.now)
+pub put_piece-at-requires-3 : goal.put_piece-at-requires-3
+put_piece-at-requires-3 c = omega (arith, c.requires, spelled_length c.args.pieces.now)
 
 pub put-requires : goal.put-requires
 put-requires c = omega (arith, c.requires, spelled_length c.args.pieces.now)
@@ -19,4 +19,4 @@ put-requires c = omega (arith, c.requires, spelled_length c.args.pieces.now)
 pub returns : goal.returns
 returns c =
     let p = c.args.pieces.now in
-    four_placed c.args.area.now c.put-piece-at.new.area c.put-piece-at-2.new.area c.put-piece-at-3.new.area c.put.new.area (piece_text p.first) (piece_text p.second) (piece_text p.third) (10 ∷ []) c.put-piece-at.result c.put-piece-at-2.result c.put-piece-at-3.result c.put-piece-at.ensures.bytes c.put-piece-at-2.ensures.bytes c.put-piece-at-3.ensures.bytes c.put.ensures.bytes c.put-piece-at.ensures.next c.put-piece-at-2.ensures.next c.put-piece-at-3.ensures.next c.requires
+    four_placed c.args.area.now c.put_piece-at.new.area c.put_piece-at-2.new.area c.put_piece-at-3.new.area c.put.new.area (piece_text p.first) (piece_text p.second) (piece_text p.third) (10 ∷ []) c.put_piece-at.result c.put_piece-at-2.result c.put_piece-at-3.result c.put_piece-at.ensures.bytes c.put_piece-at-2.ensures.bytes c.put_piece-at-3.ensures.bytes c.put.ensures.bytes c.put_piece-at.ensures.next c.put_piece-at-2.ensures.next c.put_piece-at-3.ensures.next c.requires

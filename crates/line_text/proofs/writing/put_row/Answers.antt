@@ -10,8 +10,8 @@ use Rattle.line_text.proofs.writing.put_row.Goals as goal
 pub loop-i-init : goal.loop-i-init
 loop-i-init c = (omega arith, sym (placed_nothing c.args.area.now c.args.at))
 
-pub put-entry-end-requires : goal.put-entry-end-requires
-put-entry-end-requires c =
+pub put_entry-end-requires : goal.put_entry-end-requires
+put_entry-end-requires c =
     let row = c.args.row.now in
     let i = c.loop-i.i in
     omega (arith, c.requires, entries_more_length row i (omega arith), entries_within row (i + 1))
@@ -23,7 +23,7 @@ loop-i-preserved c =
     let p = c.args.at in
     let more = entries_more_length row i (omega arith) in (
       omega (arith, more),
-      placed_then c.args.area.now c.loop-i.area c.put-entry-end.new.area (flat_map entry (take i row)) (entry (get_or row i 0)) p c.loop-i.end c.loop-i.invariant.1 c.put-entry-end.ensures.bytes c.loop-i.invariant.0 (omega (arith, c.requires, more, entries_within row (i + 1))) ∙ ap (placed c.args.area.now p) (sym (entries_more row i (omega arith))),
+      placed_then c.args.area.now c.loop-i.area c.put_entry-end.new.area (flat_map entry (take i row)) (entry (get_or row i 0)) p c.loop-i.end c.loop-i.invariant.1 c.put_entry-end.ensures.bytes c.loop-i.invariant.0 (omega (arith, c.requires, more, entries_within row (i + 1))) ∙ ap (placed c.args.area.now p) (sym (entries_more row i (omega arith))),
     )
 
 pub returns : goal.returns

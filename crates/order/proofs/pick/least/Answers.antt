@@ -3,7 +3,7 @@ use Rattle.std.proofs.lemmas.List.{get_or_read}
 use Rattle.order.specs.Picks.{Picked}
 use Rattle.order.proofs.Picking.{bears_true, bears_false, begin, change, keep, skip, picked_once}
 use Rattle.order.proofs.pick.least.Goals as goal
-use Rattle.order.proofs.pick.least.Goals.{then-bears-mark+in-None, then-bears-mark+in-Some+then-before, then-bears-mark+in-Some+else-before, else-bears-mark}
+use Rattle.order.proofs.pick.least.Goals.{then-bears_mark+in-None, then-bears_mark+in-Some+then-before, then-bears_mark+in-Some+else-before, else-bears_mark}
 
 pub loop-i-preserved : goal.loop-i-preserved
 loop-i-preserved g c =
@@ -17,28 +17,28 @@ loop-i-preserved g c =
     let here = get_or_read xs n x (omega arith) c.index-records-i.is in
     let Was : Option ℕ → Type 0 = Picked less mark m xs n in
     let Is : Option ℕ → Type 0 = Picked less mark m xs (n + 1) in
-    elim c.if-bears-mark.branch [
-      | then-bears-mark+in-None w ↦
-          let has = bears_true (mark x) m (sym c.bears-mark.ensures ∙ w.if-bears-mark.true) in
+    elim c.if-bears_mark.branch [
+      | then-bears_mark+in-None w ↦
+          let has = bears_true (mark x) m (sym c.bears_mark.ensures ∙ w.if-bears_mark.true) in
           subst Is (sym w.best-is) (begin less mark o m xs n x here has (subst Was w.in-None.is c.loop-i.invariant))
-      | then-bears-mark+in-Some+then-before w ↦
-          let has = bears_true (mark x) m (sym c.bears-mark.ensures ∙ w.if-bears-mark.true) in
+      | then-bears_mark+in-Some+then-before w ↦
+          let has = bears_true (mark x) m (sym c.bears_mark.ensures ∙ w.if-bears_mark.true) in
           let b = w.in-Some.b in
           let h = subst Was w.in-Some.is c.loop-i.invariant in
           let there = get_or_read xs b w.index-records-b.result (omega (arith, h.inside)) w.index-records-b.is in
           subst Is (sym w.best-is) (change less mark o m xs n x here b w.index-records-b.result there h has (sym w.if-before.ensures))
-      | then-bears-mark+in-Some+else-before w ↦
+      | then-bears_mark+in-Some+else-before w ↦
           let b = w.in-Some.b in
           let h = subst Was w.in-Some.is c.loop-i.invariant in
           let there = get_or_read xs b w.index-records-b.result (omega (arith, h.inside)) w.index-records-b.is in
           subst Is (sym w.best-is) (keep less mark o m xs n x here b w.index-records-b.result there h (sym w.if-before.ensures))
-      | else-bears-mark w ↦
-          let other = bears_false (mark x) m (sym c.bears-mark.ensures ∙ w.if-bears-mark.false) in
+      | else-bears_mark w ↦
+          let other = bears_false (mark x) m (sym c.bears_mark.ensures ∙ w.if-bears_mark.false) in
           subst Is (sym w.best-is) (skip less mark o m xs n x here c.loop-i.best other c.loop-i.invariant)
     ]
 
-pub offset-bounds-records-b : goal.offset-bounds-records-b
-offset-bounds-records-b g c =
+pub offset_bounds-records-b : goal.offset_bounds-records-b
+offset_bounds-records-b g c =
     let Was : Option ℕ → Type 0 = Picked g.T.Ranked.less g.T.Marked.marking c.args.mark c.args.records.now c.loop-i.i in
     let h = subst Was c.in-Some.is c.loop-i.invariant in
     omega (arith, h.inside)

@@ -7,4 +7,4 @@ pub returns : goal.returns
 returns c =
     let n = c.args.n in
     let p = c.args.at in
-    placed_then c.args.area.now c.put-word.new.area c.put-word-2.new.area (two (n / 65536)) (two (n % 65536)) p (p + 2) c.put-word.ensures c.put-word-2.ensures refl (search rules)
+    placed_then c.args.area.now c.put_word.new.area c.put_word-2.new.area (two (n / 65536)) (two (n % 65536)) p (p + 2) c.put_word.ensures c.put_word-2.ensures refl (search rules)

@@ -4,4 +4,4 @@ use Rattle.planfile.proofs.Placing.{placed_then}
 use Rattle.planfile.proofs.writing.put_head.Goals as goal
 
 pub returns : goal.returns
-returns c = placed_then c.args.area.now c.put.new.area c.put-word.new.area (c.args.letter ∷ []) (two c.args.len) c.args.at (c.args.at + 1) c.put.ensures c.put-word.ensures refl (search rules)
+returns c = placed_then c.args.area.now c.put.new.area c.put_word.new.area (c.args.letter ∷ []) (two c.args.len) c.args.at (c.args.at + 1) c.put.ensures c.put_word.ensures refl (search rules)

@@ -7,13 +7,13 @@ use Rattle.file_reader.specs.Grammar.{row_bytes}
 use Rattle.planfile.proofs.Placing.{placed_nothing, placed_length, placed_then}
 use Rattle.planfile.proofs.RowByRow.{rows_front, rows_front_length, rows_front_within, row_there}
 use Rattle.planfile.proofs.writing.put_rows.Goals as goal
-use Rattle.planfile.proofs.writing.put_rows.Goals.{in-Some, in-default}
+use Rattle.planfile.proofs.writing.put_rows.Goals.{in-Some, in_default}
 
 pub loop-i-init : goal.loop-i-init
 loop-i-init c = (omega arith, sym (placed_nothing c.args.area.now c.args.at))
 
-pub put-row-requires : goal.put-row-requires
-put-row-requires c =
+pub put_row-requires : goal.put_row-requires
+put_row-requires c =
     let ts = tasks c.args.table.now in
     let i = c.loop-i.i in
     let a = c.args.area.now in
@@ -23,12 +23,12 @@ put-row-requires c =
     let same = ap length c.loop-i.invariant.1 ∙ placed_length a (flat_map row_bytes (take i ts)) c.args.at (omega (arith, c.requires, more, within)) in
     omega (arith, c.loop-i.invariant.0, c.requires, more, within, same)
 
-pub overflow-add-end : goal.overflow-add-end
-overflow-add-end c =
+pub overflow_add-end : goal.overflow_add-end
+overflow_add-end c =
     let ts = tasks c.args.table.now in
     let i = c.loop-i.i in
     let more = rows_front_length ts i (task_of c.in-Some.row) (sym c.in-Some.ensures) in
-    omega (arith, c.loop-i.invariant.0, c.requires, more, rows_front_within ts (i + 1), c.row-len-end.ensures, c.well-formed)
+    omega (arith, c.loop-i.invariant.0, c.requires, more, rows_front_within ts (i + 1), c.row_len-end.ensures, c.well-formed)
 
 pub loop-i-preserved : goal.loop-i-preserved
 loop-i-preserved c =
@@ -41,9 +41,9 @@ loop-i-preserved c =
           let there = sym w.in-Some.ensures in
           let more = rows_front_length ts i t there in
           let within = rows_front_within ts (i + 1) in
-          let grown = placed_then c.args.area.now c.loop-i.area w.put-row.new.area (flat_map row_bytes (take i ts)) (row_bytes t) p c.loop-i.end c.loop-i.invariant.1 w.put-row.ensures c.loop-i.invariant.0 (omega (arith, c.requires, more, within)) in
-          (w.end-is ∙ omega (arith, c.loop-i.invariant.0, w.row-len-end.ensures, more), w.area-is ∙ grown ∙ ap (placed c.args.area.now p) (sym (rows_front ts i t there)))
-      | in-default w ↦ absurd (row_there ts i c.row.result c.row.ensures w.in-default.is (omega (arith, c.loop-i-test.true, c.count-i-end.ensures)))
+          let grown = placed_then c.args.area.now c.loop-i.area w.put_row.new.area (flat_map row_bytes (take i ts)) (row_bytes t) p c.loop-i.end c.loop-i.invariant.1 w.put_row.ensures c.loop-i.invariant.0 (omega (arith, c.requires, more, within)) in
+          (w.end-is ∙ omega (arith, c.loop-i.invariant.0, w.row_len-end.ensures, more), w.area-is ∙ grown ∙ ap (placed c.args.area.now p) (sym (rows_front ts i t there)))
+      | in_default w ↦ absurd (row_there ts i c.row.result c.row.ensures w.in_default.is (omega (arith, c.loop-i-test.true, c.count-i-end.ensures)))
     ]
 
 pub returns : goal.returns

@@ -14,5 +14,5 @@ loop-preserved c =
     let q : ℕ = c.next.new.self.cursor.pos in
     let call = c.in-Some.field-0 in
     let i = c.loop.invariant in
-    let came : NextCall b p q (Some call) = subst (NextCall b p q) c.in-Some.is (subst (λ l. NextCall l p q c.in-ok-next.field-0) i.0 c.in-ok-next.ensures.read) in
-    (c.in-ok-next.ensures.bytes ∙ i.0, calls_more b 0 p q call i.1 came.0 came.1 came.2)
+    let came : NextCall b p q (Some call) = subst (NextCall b p q) c.in-Some.is (subst (λ l. NextCall l p q c.in_ok-next.field-0) i.0 c.in_ok-next.ensures.read) in
+    (c.in_ok-next.ensures.bytes ∙ i.0, calls_more b 0 p q call i.1 came.0 came.1 came.2)

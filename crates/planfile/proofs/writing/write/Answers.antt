@@ -11,23 +11,23 @@ use Rattle.file_reader.proofs.OneMeaning.{only}
 use Rattle.file_reader.proofs.RoundTrip.{written_back, written_length}
 use Rattle.planfile.proofs.writing.write.Goals as goal
 
-pub returns-then-not-names-layout : goal.returns-then-not-names-layout
-returns-then-not-names-layout c = record {
-  written = (IsNotWritten.letter (sym c.if-not-names-layout.ensures), search rules);
+pub returns-then-not-names_layout : goal.returns-then-not-names_layout
+returns-then-not-names_layout c = record {
+  written = (IsNotWritten.letter (sym c.if-not-names_layout.ensures), search rules);
   back = tt;
   again = λ f m. written_back f c.args.settings (tasks c.args.table.now) c.args.calls.now m;
 }
 
 pub returns-in-Err : goal.returns-in-Err
 returns-in-Err c = record {
-  written = (IsNotWritten.calls_at_fault c.in-Err.fault (sym c.if-not-names-layout.ensures) c.in-Err.ensures, search rules);
+  written = (IsNotWritten.calls_at_fault c.in-Err.fault (sym c.if-not-names_layout.ensures) c.in-Err.ensures, search rules);
   back = tt;
   again = λ f m. written_back f c.args.settings (tasks c.args.table.now) c.args.calls.now m;
 }
 
-pub returns-then-calls-gt-LONGEST-CALLS : goal.returns-then-calls-gt-LONGEST-CALLS
-returns-then-calls-gt-LONGEST-CALLS c = record {
-  written = (IsNotWritten.long_calls (sym c.if-not-names-layout.ensures) c.in-default.ensures c.if-calls-gt-LONGEST-CALLS.true, search rules);
+pub returns-then-calls-gt-LONGEST_CALLS : goal.returns-then-calls-gt-LONGEST_CALLS
+returns-then-calls-gt-LONGEST_CALLS c = record {
+  written = (IsNotWritten.long_calls (sym c.if-not-names_layout.ensures) c.in_default.ensures c.if-calls-gt-LONGEST_CALLS.true, search rules);
   back = tt;
   again = λ f m. written_back f c.args.settings (tasks c.args.table.now) c.args.calls.now m;
 }
@@ -37,20 +37,20 @@ returns-then-area-len c =
     let h = c.args.settings in
     let ts = tasks c.args.table.now in
     let calls = c.args.calls.now in
-    let long : length (written h ts calls) ≡ c.file-len-len.result = written_length h ts calls ∙ omega (arith, c.rows-len-rows.ensures.is, c.file-len-len.ensures, section_length calls) in
+    let long : length (written h ts calls) ≡ c.file_len-len.result = written_length h ts calls ∙ omega (arith, c.rows_len-rows.ensures.is, c.file_len-len.ensures, section_length calls) in
     record {
-      written = (IsNotWritten.short_area (sym c.if-not-names-layout.ensures) c.in-default.ensures c.if-calls-gt-LONGEST-CALLS.false (omega (arith, long, c.if-area-len.true)), search rules);
+      written = (IsNotWritten.short_area (sym c.if-not-names_layout.ensures) c.in_default.ensures c.if-calls-gt-LONGEST_CALLS.false (omega (arith, long, c.if-area-len.true)), search rules);
       back = tt;
       again = λ f m. written_back f h ts calls m;
     }
 
-pub put-file-requires : goal.put-file-requires
-put-file-requires c =
+pub put_file-requires : goal.put_file-requires
+put_file-requires c =
     let h = c.args.settings in
     let ts = tasks c.args.table.now in
     let calls = c.args.calls.now in
-    let long : length (written h ts calls) ≡ c.file-len-len.result = written_length h ts calls ∙ omega (arith, c.rows-len-rows.ensures.is, c.file-len-len.ensures, section_length calls) in
-    record { rows = c.rows-len-rows.ensures.is; calls = c.if-calls-gt-LONGEST-CALLS.false; room = omega (arith, long, c.if-area-len.false) }
+    let long : length (written h ts calls) ≡ c.file_len-len.result = written_length h ts calls ∙ omega (arith, c.rows_len-rows.ensures.is, c.file_len-len.ensures, section_length calls) in
+    record { rows = c.rows_len-rows.ensures.is; calls = c.if-calls-gt-LONGEST_CALLS.false; room = omega (arith, long, c.if-area-len.false) }
 
 pub returns : goal.returns
 returns c =
@@ -58,18 +58,18 @@ returns c =
     let ts = tasks c.args.table.now in
     let calls = c.args.calls.now in
     let area = c.args.area.now in
-    let letter : layout_letter h.letter ≡ true = sym c.if-not-names-layout.ensures in
-    let whole : CallsWhole calls 0 (length calls) = c.in-default.ensures in
-    let long : length (written h ts calls) ≡ c.file-len-len.result = written_length h ts calls ∙ omega (arith, c.rows-len-rows.ensures.is, c.file-len-len.ensures, section_length calls) in
+    let letter : layout_letter h.letter ≡ true = sym c.if-not-names_layout.ensures in
+    let whole : CallsWhole calls 0 (length calls) = c.in_default.ensures in
+    let long : length (written h ts calls) ≡ c.file_len-len.result = written_length h ts calls ∙ omega (arith, c.rows_len-rows.ensures.is, c.file_len-len.ensures, section_length calls) in
     let means = whole_read h ts calls letter (tasks_taken c.args.table.now) whole in
     record {
       written = record {
         letter = letter;
         whole = whole;
-        short = c.if-calls-gt-LONGEST-CALLS.false;
+        short = c.if-calls-gt-LONGEST_CALLS.false;
         long = sym long;
         room = c.if-area-len.false;
-        bytes = c.put-file.ensures ∙ ap (λ n. written h ts calls ++ drop n area) (let n : 0 + length (written h ts calls) ≡ c.file-len-len.result = omega (arith, long) in n);
+        bytes = c.put_file.ensures ∙ ap (λ n. written h ts calls ++ drop n area) (let n : 0 + length (written h ts calls) ≡ c.file_len-len.result = omega (arith, long) in n);
       };
       back = (means, only (written h ts calls) (Accepted h ts calls false) means);
       again = λ f m. written_back f h ts calls m;

@@ -46,8 +46,8 @@ returns-then-read-ne0 c =
     ] in
     record { limit = search rules; within = search rules; read = (is, search rules) }
 
-pub overflow-sub-self : goal.overflow-sub-self
-overflow-sub-self c =
+pub overflow_sub-self : goal.overflow_sub-self
+overflow_sub-self c =
     let f = c.args.file.now in
     let p = c.args.self.now.pos in
     let e = c.args.self.now.limit in

@@ -7,10 +7,10 @@ loop-guard-init c = (search rules, search rules, search rules, search rules, no_
 
 pub loop-guard-preserved : goal.loop-guard-preserved
 loop-guard-preserved c =
-    let read = c.in-ok-call.ensures.read in (
+    let read = c.in_ok-call.ensures.read in (
       search rules,
       search rules,
       search rules,
       search rules,
-      calls_more c.args.self.now.file.now c.narrow-guard.result.cursor.now.pos c.loop-guard.guard.cursor.now.pos c.call.new.self.pos c.in-ok-call.field-0 c.loop-guard.invariant.4 read.1 read.2 read.3,
+      calls_more c.args.self.now.file.now c.narrow-guard.result.cursor.now.pos c.loop-guard.guard.cursor.now.pos c.call.new.self.pos c.in_ok-call.field-0 c.loop-guard.invariant.4 read.1 read.2 read.3,
     )

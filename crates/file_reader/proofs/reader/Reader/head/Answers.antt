@@ -13,4 +13,4 @@ returns c =
     let inside : p + 3 + n ≤ length f = search rules in
     let good : section_fault f p due ≡ None = search rules in
     let some : get_or f p 0 ≡ 67 → 1 ≤ n = search rules in
-    head_read f p n due c.section-of.result good turn c.word-many.ensures.stands inside c.section-of.ensures.letter c.section-of.ensures.body c.section-of.ensures.place some
+    head_read f p n due c.section_of.result good turn c.word-many.ensures.stands inside c.section_of.ensures.letter c.section_of.ensures.body c.section_of.ensures.place some

@@ -12,5 +12,5 @@ loop-guard-preserved c = (
   search rules,
   search rules,
   search rules,
-  rows_more c.args.self.now.file.now c.narrow-guard.result.cursor.now.pos c.loop-guard.guard.cursor.now.pos c.row.new.self.pos (tasks c.loop-guard.table) (tasks c.row.new.table) c.loop-guard.invariant.4 c.in-ok-row.ensures.read,
+  rows_more c.args.self.now.file.now c.narrow-guard.result.cursor.now.pos c.loop-guard.guard.cursor.now.pos c.row.new.self.pos (tasks c.loop-guard.table) (tasks c.row.new.table) c.loop-guard.invariant.4 c.in_ok-row.ensures.read,
 )

@@ -4,8 +4,8 @@ use Rattle.plan.specs.Plans.{planned}
 use Rattle.plan.proofs.Plans.{plan_lawful}
 use Rattle.layout.proofs.dedicated.making.laid.Goals as goal
 
-pub invariant-of-result : goal.invariant-of-result
-invariant-of-result c =
+pub invariant_of-result : goal.invariant_of-result
+invariant_of-result c =
     let p = c.args.plan.now in
     let good = (plan_lawful p).good c.requires.good in
     let ws : take c.bins.result c.loads_of.result ≡ (planned p).loads = ap (λ n. take n c.loads_of.result) c.bins.ensures ∙ c.loads_of.ensures in (

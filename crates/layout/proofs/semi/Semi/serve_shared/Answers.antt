@@ -7,8 +7,8 @@ use Rattle.layout.proofs.Serving.{lent_yes, lent_no}
 use Rattle.layout.proofs.Starting.{find_same}
 use Rattle.layout.proofs.semi.Semi.serve_shared.Goals as goal
 
-pub overflow-add-start : goal.overflow-add-start
-overflow-add-start c =
+pub overflow_add-start : goal.overflow_add-start
+overflow_add-start c =
     let x = c.args.self.now in
     let s = x.shares in
     let p = c.args.bin in

@@ -9,8 +9,8 @@ use Rattle.layout.proofs.shares.Shares.frees.Goals as goal
 pub loop-q-init : goal.loop-q-init
 loop-q-init c = summed_none (room c.args.self.now.slot (reserved c.args.self.now)) c.args.self.now.slot 0 17 _ refl
 
-pub overflow-add-next : goal.overflow-add-next
-overflow-add-next c =
+pub overflow_add-next : goal.overflow_add-next
+overflow_add-next c =
     let s = c.args.self.now in
     let b : c.loop-q.q * s.slot ≤ 16 * 1000000 = mul-le c.loop-q.q s.slot 16 1000000 (omega arith) s.some.1 in
     record { fits = omega (arith, c.loop-q.invariant.bounded, s.some.1) }

@@ -4,8 +4,8 @@ use Rattle.plan.proofs.Plans.{plan_lawful, bins_few}
 use Rattle.layout.proofs.Plenty.{plenty}
 use Rattle.layout.proofs.shares.Shares.of.Goals as goal
 
-pub invariant-of-result : goal.invariant-of-result
-invariant-of-result c =
+pub invariant_of-result : goal.invariant_of-result
+invariant_of-result c =
     let p = c.args.plan.now in
     let ws : take c.bins.result c.loads_of.result ≡ (planned p).loads = ap (λ n. take n c.loads_of.result) c.bins.ensures ∙ c.loads_of.ensures in
     let rs : take c.bins.result c.reserves_of.result ≡ (planned p).reserves = ap (λ n. take n c.reserves_of.result) c.bins.ensures ∙ c.reserves_of.ensures in

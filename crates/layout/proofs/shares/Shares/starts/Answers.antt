@@ -8,8 +8,8 @@ use Rattle.layout.proofs.shares.Shares.starts.Goals as goal
 pub loop-bin-init : goal.loop-bin-init
 loop-bin-init c = summed_none (λ i. share (reserved c.args.self.now) (c.args.first + i)) c.args.self.now.slot c.args.first 64 _ refl
 
-pub overflow-add-next : goal.overflow-add-next
-overflow-add-next c =
+pub overflow_add-next : goal.overflow_add-next
+overflow_add-next c =
     let s = c.args.self.now in
     let b : c.loop-bin.bin * s.slot ≤ 64 * 1000000 = mul-le c.loop-bin.bin s.slot 64 1000000 (omega (arith, s.few)) s.some.1 in
     record { fits = omega (arith, c.loop-bin.invariant.bounded, s.each c.loop-bin.bin, share_is s c.loop-bin.bin (omega arith), s.some.1) }

@@ -7,7 +7,7 @@ use Rattle.layout.proofs.shares.making.loads_of.Goals as goal
 pub loop-bin-preserved : goal.loop-bin-preserved
 loop-bin-preserved c =
     let p = c.args.plan.now in
-    copied_more (planned p).loads c.loop-bin.loads c.loop-bin.bin c.unwrap-or.result c.load.result c.loop-bin.invariant (omega (arith, c.bins-bin-end.ensures)) (omega (arith, bins_few p)) c.unwrap-or.ensures c.load.ensures
+    copied_more (planned p).loads c.loop-bin.loads c.loop-bin.bin c.unwrap_or.result c.load.result c.loop-bin.invariant (omega (arith, c.bins-bin-end.ensures)) (omega (arith, bins_few p)) c.unwrap_or.ensures c.load.ensures
 
 pub returns : goal.returns
 returns c =

@@ -7,7 +7,7 @@ use Rattle.layout.proofs.shares.making.reserves_of.Goals as goal
 pub loop-bin-preserved : goal.loop-bin-preserved
 loop-bin-preserved c =
     let p = c.args.plan.now in
-    copied_more (planned p).reserves c.loop-bin.reserves c.loop-bin.bin c.unwrap-or.result c.reserve.result c.loop-bin.invariant (omega (arith, c.bins-bin-end.ensures, reserves_count p)) (omega (arith, bins_few p, reserves_count p)) c.unwrap-or.ensures c.reserve.ensures
+    copied_more (planned p).reserves c.loop-bin.reserves c.loop-bin.bin c.unwrap_or.result c.reserve.result c.loop-bin.invariant (omega (arith, c.bins-bin-end.ensures, reserves_count p)) (omega (arith, bins_few p, reserves_count p)) c.unwrap_or.ensures c.reserve.ensures
 
 pub returns : goal.returns
 returns c =

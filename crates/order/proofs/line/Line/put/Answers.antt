@@ -23,10 +23,10 @@ returns g c =
     let o = g.met.T.Ranked.ranks in
     let x = c.args.x in
     let s = c.args.self.now.slots.now in
-    let t = c.insert-sorted.new.slots in
+    let t = c.insert_sorted.new.slots in
     let n = c.args.self.now.count in
     let l : n < length s = omega arith in
-    let is = c.insert-sorted.ensures in
+    let is = c.insert_sorted.ensures in
     let old = held c.args.self.now in
     let new = put_held less x s t n l is in
     record {

@@ -11,21 +11,21 @@ returns g c =
     let less = g.T.Ranked.less in
     let o = g.met.T.Ranked.ranks in
     let s = c.args.self.now.slots.now in
-    let t = c.remove-at-x.new.slots in
+    let t = c.remove_at-x.new.slots in
     let n = c.args.self.now.count in
     let i = c.args.place in
-    let x = c.remove-at-x.result in
+    let x = c.remove_at-x.result in
     let l : i < n = omega arith in
     let w : n ≤ length s = omega arith in
     let old = held c.args.self.now in
     let h : i < length old = let q = length-take-le n s w in omega arith in
-    let is = c.remove-at-x.ensures.after in
+    let is = c.remove_at-x.ensures.after in
     let new = taken_held x s t n i l w is in
     record {
       lent = refl;
       sized = taken_sized x s t n i l w is;
       taken = record {
-        was = taken_was x s t n i l w is (c.remove-at-x.ensures.value x);
+        was = taken_was x s t n i l w is (c.remove_at-x.ensures.value x);
         records = new;
         free = taken_spare x s t n i l w is;
         sorted = λ up. subst (Sorted less) (sym new) (without_sorted less o old i h up);

@@ -1,29 +1,32 @@
-use Rattle.std.proofs.Common.{◌≡◌, ◌+◌, ◌<◌, ◌≤◌, length, get_or, take, set, sym, ap, ◌∙◌, arith}
+use Rattle.std.proofs.Common.{◌≡◌, ◌+◌, ◌<◌, ◌≤◌, get_or, take, set, ap, ◌∙◌, arith}
 use Rattle.std.proofs.lemmas.List.{length-set}
 use Rattle.plan.specs.Method.{full, put}
 use Rattle.plan.proofs.Placing.{added, opened, room, light_set, counted}
 use Rattle.plan.proofs.packing.Packing.put.Goals as goal
 
-pub invariant-of-self : goal.invariant-of-self
-invariant-of-self c =
-    let s = c.args.self.now in (
-      omega arith,
-      (
-        length-set s.bin_of c.args.task c.place-bin.result ∙ s.long,
-        (length-set s.loads c.place-bin.result c.args.charge ∙ s.wide, (light_set s.loads c.place-bin.result c.args.charge (omega (arith, s.wide)) (omega arith) s.light, tt)),
-      ),
-    )
+pub invariant_of-self : goal.invariant_of-self
+invariant_of-self c =
+    let s = c.args.self.now in
+    record {
+      few = omega arith;
+      long = length-set s.bin_of c.args.task c.place-bin.result ∙ s.long;
+      wide = length-set s.loads c.place-bin.result c.args.charge ∙ s.wide;
+      light = light_set s.loads c.place-bin.result c.args.charge (omega (arith, s.wide)) (omega arith) s.light;
+    }
 
-pub invariant-of-self-else-bin-self : goal.invariant-of-self-else-bin-self
-invariant-of-self-else-bin-self c =
+pub invariant_of-self-else-bin-self : goal.invariant_of-self-else-bin-self
+invariant_of-self-else-bin-self c =
     let s = c.args.self.now in
     let p = c.place-bin.result in
     let v = get_or s.loads p 0 + c.args.charge in
     let l : p < s.bins = omega arith in
-    let fits : v ≤ full = room c.args.charge s.loads s.bins p (omega (arith, s.few, s.wide)) c.place-bin.ensures.lowest (omega arith) l in (
-      omega arith,
-      (length-set s.bin_of c.args.task p ∙ s.long, (length-set s.loads p v ∙ s.wide, (light_set s.loads p v (omega (arith, s.wide)) fits s.light, tt))),
-    )
+    let fits : v ≤ full = room c.args.charge s.loads s.bins p (omega (arith, s.few, s.wide)) c.place-bin.ensures.lowest (omega arith) l in
+    record {
+      few = omega arith;
+      long = length-set s.bin_of c.args.task p ∙ s.long;
+      wide = length-set s.loads p v ∙ s.wide;
+      light = light_set s.loads p v (omega (arith, s.wide)) fits s.light;
+    }
 
 pub returns-then-bin-self : goal.returns-then-bin-self
 returns-then-bin-self c =

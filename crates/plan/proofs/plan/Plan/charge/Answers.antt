@@ -5,12 +5,12 @@ use Rattle.plan.specs.Views.{tasks}
 use Rattle.plan.proofs.Fronts.{nth_map}
 use Rattle.plan.proofs.plan.Plan.charge.Goals as goal
 
-pub returns-in-err-row : goal.returns-in-err-row
-returns-in-err-row c =
+pub returns-in_err-row : goal.returns-in_err-row
+returns-in_err-row c =
     let ts = tasks c.args.self.now.table in
-    c.from-residual.ensures ∙ ap (option_map charge) c.in-err-row.ensures ∙ sym (nth_map charge ts c.args.task)
+    c.from_residual.ensures ∙ ap (option_map charge) c.in_err-row.ensures ∙ sym (nth_map charge ts c.args.task)
 
 pub returns : goal.returns
 returns c =
     let ts = tasks c.args.self.now.table in
-    ap Some c.charge.ensures.is ∙ ap (option_map charge) c.in-ok-row.ensures ∙ sym (nth_map charge ts c.args.task)
+    ap Some c.charge.ensures.is ∙ ap (option_map charge) c.in_ok-row.ensures ∙ sym (nth_map charge ts c.args.task)

@@ -3,8 +3,8 @@ use Rattle.std.proofs.lemmas.List.Sums.{sum_by_more}
 use Rattle.plan.proofs.Plans.{reserve_short}
 use Rattle.plan.proofs.plan.Plan.reserved.Goals as goal
 
-pub overflow-add-ticks : goal.overflow-add-ticks
-overflow-add-ticks c = let p = c.args.self.now in record { fits = omega (arith, c.loop-bin.invariant.1, p.few, reserve_short p c.loop-bin.bin (omega arith)) }
+pub overflow_add-ticks : goal.overflow_add-ticks
+overflow_add-ticks c = let p = c.args.self.now in record { fits = omega (arith, c.loop-bin.invariant.1, p.few, reserve_short p c.loop-bin.bin (omega arith)) }
 
 pub loop-bin-preserved : goal.loop-bin-preserved
 loop-bin-preserved c =

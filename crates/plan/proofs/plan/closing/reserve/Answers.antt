@@ -8,18 +8,18 @@ use Rattle.plan.proofs.plan.closing.reserve.Goals as goal
 product : (S δ W : ℕ) → S ≤ 1000000 → δ ≤ 255 → W ≤ full → S * (δ + 1) * W ≤ 256000000 * 1000000
 product S δ W s d w = mul-le (S * (δ + 1)) W 256000000 1000000 (omega (arith, mul-le S (δ + 1) 1000000 256 s (omega arith))) w
 
-pub overflow-mul-wanted-2 : goal.overflow-mul-wanted-2
-overflow-mul-wanted-2 c = let h = product c.args.slot c.args.delta c.args.load c.requires.slot (omega arith) c.requires.load in record { fits = omega arith }
+pub overflow_mul-wanted-2 : goal.overflow_mul-wanted-2
+overflow_mul-wanted-2 c = let h = product c.args.slot c.args.delta c.args.load c.requires.slot (omega arith) c.requires.load in record { fits = omega arith }
 
-pub quotient-up-requires : goal.quotient-up-requires
-quotient-up-requires c =
+pub quotient_up-requires : goal.quotient_up-requires
+quotient_up-requires c =
     let h = product c.args.slot c.args.delta c.args.load c.requires.slot (omega arith) c.requires.load in
     record { some = omega (arith, c.requires.delta); room = omega arith }
 
-pub overflow-cast-result : goal.overflow-cast-result
+pub overflow_cast-result : goal.overflow_cast-result
 unfolding up
-overflow-cast-result c = let h = reserve_rounded c.args.slot c.args.delta c.args.load c.requires.delta c.requires.load in record { fits = omega (arith, h.inside, c.quotient-up.ensures) }
+overflow_cast-result c = let h = reserve_rounded c.args.slot c.args.delta c.args.load c.requires.delta c.requires.load in record { fits = omega (arith, h.inside, c.quotient_up.ensures) }
 
 pub returns : goal.returns
 unfolding up
-returns c = c.quotient-up.ensures
+returns c = c.quotient_up.ensures

@@ -1,10 +1,9 @@
-use Rattle.std.proofs.Common.{◌≡◌, ◌<◌, ◌≤◌, length, get_or, sym, ap, ◌∙◌, arith}
+use Rattle.std.proofs.Common.{◌≡◌, ◌<◌, length, sym, ap, ◌∙◌, arith}
 use Rattle.std.proofs.lemmas.List.{length-map, length-take-le, get_or-map}
-use Rattle.plan.specs.Rows.{Task}
 use Rattle.plan.specs.Method.{charge}
 use Rattle.plan.specs.Closing.{charges_of}
 use Rattle.plan.specs.Views.{task_of, tasks}
-use Rattle.plan.proofs.Filling.{packs_none, packs_more, packs_all}
+use Rattle.plan.proofs.Filling.{packs_more, packs_all}
 use Rattle.plan.proofs.Rowing.{tasks_count, tasks_read}
 use Rattle.plan.proofs.table.Table.first_fit.Goals as goal
 

@@ -3,7 +3,7 @@ use Rattle.runner.specs.declared.jobs.Jobs.{Jobs}
 use Rattle.runner.specs.Jobs.{none, worked}
 use Rattle.runner.proofs.Ticking.{ran_as, ran_unserved, ran_idle, ran_task, ran_row, ran_jobs}
 use Rattle.runner.proofs.jobs.running.run_bins.Goals as goal
-use Rattle.runner.proofs.jobs.running.run_bins.Goals.{in-Some+in-Some-next-of, in-Some+in-default-next-of, in-default}
+use Rattle.runner.proofs.jobs.running.run_bins.Goals.{in-Some+in-Some-next_of, in-Some+in_default-next_of, in_default}
 
 pub name-requires : goal.name-requires
 name-requires g c =
@@ -23,13 +23,13 @@ loop-bin-preserved g c =
     let row' = c.match-server.row in
     let js' = c.match-server.jobs.slots in
     elim c.match-server.branch [
-      | in-Some+in-Some-next-of w ↦
+      | in-Some+in-Some-next_of w ↦
           let q = w.in-Some.processor in
-          let i = w.in-Some-next-of.task in
+          let i = w.in-Some-next_of.task in
           ran_as m t js₀ (b + 1) (set row q i) row' (set js i (worked (get_or js i none))) js' (w.row-is ∙ w.name.ensures) (ap (λ (x : Jobs). x.slots) w.jobs-is ∙ w.work.ensures)
-          (ran_task m t js₀ b row js r q i (g.met.L.Layout.exclusive c.args.layout.now) (sym c.server.ensures ∙ w.in-Some.is) c.loop-bin.jobs.wide w.in-Some-next-of.ensures)
-      | in-Some+in-default-next-of w ↦ ran_as m t js₀ (b + 1) row row' js js' w.row-is (ap (λ (x : Jobs). x.slots) w.jobs-is) (ran_idle m t js₀ b row js r w.in-default-next-of.ensures)
-      | in-default w ↦ ran_as m t js₀ (b + 1) row row' js js' w.row-is (ap (λ (x : Jobs). x.slots) w.jobs-is) (ran_unserved m t js₀ b row js r (sym c.server.ensures ∙ w.in-default.is))
+          (ran_task m t js₀ b row js r q i (g.met.L.Layout.exclusive c.args.layout.now) (sym c.server.ensures ∙ w.in-Some.is) c.loop-bin.jobs.wide w.in-Some-next_of.ensures)
+      | in-Some+in_default-next_of w ↦ ran_as m t js₀ (b + 1) row row' js js' w.row-is (ap (λ (x : Jobs). x.slots) w.jobs-is) (ran_idle m t js₀ b row js r w.in_default-next_of.ensures)
+      | in_default w ↦ ran_as m t js₀ (b + 1) row row' js js' w.row-is (ap (λ (x : Jobs). x.slots) w.jobs-is) (ran_unserved m t js₀ b row js r (sym c.server.ensures ∙ w.in_default.is))
     ]
 
 pub returns : goal.returns

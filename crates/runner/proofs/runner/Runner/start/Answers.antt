@@ -10,8 +10,8 @@ use Rattle.runner.proofs.Works.{sound_of}
 use Rattle.runner.proofs.runner.Runner.start.Goals as goal
 use Rattle.runner.proofs.runner.Runner.start.Goals.{in-Ok, in-Err}
 
-pub invariant-of-result : goal.invariant-of-result
-invariant-of-result g c =
+pub invariant_of-result : goal.invariant_of-result
+invariant_of-result g c =
     let n = c.match-fits.tasks in
     let listed : n ≤ length (planned c.args.plan).tasks = elim c.match-fits.branch [ in-Ok w ↦ omega (arith, w.tasks-is, w.tasks-tasks.ensures) | in-Err w ↦ omega (arith, w.tasks-is) ] in
     let few : n ≤ 64 = omega (arith, (plan_lawful c.args.plan).few) in

@@ -19,8 +19,8 @@ returns-then-bin-self c =
     let p = c.args.bin in
     nobody t (flat_serves s.slot (reserved s) t p) (none_serves s.slot (reserved s) t p (omega (arith, count_reserved s)))
 
-pub overflow-add-result : goal.overflow-add-result
-overflow-add-result c =
+pub overflow_add-result : goal.overflow_add-result
+overflow_add-result c =
     let x = c.args.self.now in
     let s = x.shares in
     let p = c.args.bin in
@@ -28,8 +28,8 @@ overflow-add-result c =
     let l = slot_below s.slot s.processors (reserved s) p (get_or x.starts p 0) c.offset-k.result (fit s) (x.started p (omega arith)) (omega (arith, share_is s p (omega arith))) in
     record { fits = omega arith }
 
-pub overflow-cast-result : goal.overflow-cast-result
-overflow-cast-result c =
+pub overflow_cast-result : goal.overflow_cast-result
+overflow_cast-result c =
     let x = c.args.self.now in
     let s = x.shares in
     let p = c.args.bin in
