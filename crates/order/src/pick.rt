@@ -16,8 +16,8 @@ fn bears_mark<T: Marked>(x: &T, mark: u8) -> bool
 
 // The place of the least record that bears the mark, the first of equals; none where no record does.
 pub fn least<T: Ranked + Marked>(records: &[T], mark: u8) -> Option<usize>
-    ensures picked { Picked less marking mark records.now (length records.now) result }
-    ensures only { (o : Option ℕ) → Picked less marking mark records.now (length records.now) o → o ≡ result }
+    ensures picked { Picked T.less T.marking mark records.now (length records.now) result }
+    ensures only { (o : Option ℕ) → Picked T.less T.marking mark records.now (length records.now) o → o ≡ result }
 {
     let mut best = None;
     for (i, x) in records.iter().enumerate() {

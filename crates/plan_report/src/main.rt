@@ -21,9 +21,9 @@ fn settings(rt: &HostRuntime) -> anyhow::Result<(u8, u8)> {
     match (words.next(), words.next(), words.next()) {
         (Some(processors), Some(delta), None) => match (processors.parse(), delta.parse()) {
             (Ok(processors), Ok(delta)) => Ok((processors, delta)),
-            _ => Err(USAGE.into()),
+            _ => Err(anyhow!(USAGE)),
         },
-        _ => Err(USAGE.into()),
+        _ => Err(anyhow!(USAGE)),
     }
 }
 

@@ -23,7 +23,7 @@ impl<'a, T: Ranked + Copy> Line<'a, T> {
     pub fn new(slots: &'a mut [T]) -> Line<'a, T>
         ensures lent { result.slots.ghost_name ≡ slots.entry.ghost_name }
         ensures empty { held result ≡ [] }
-        ensures sorted { Sorted less (held result) }
+        ensures sorted { Sorted T.less (held result) }
         ensures free { spare result ≡ slots.old }
     {
         Line { slots, count: 0 }
@@ -47,7 +47,7 @@ impl<'a, T: Ranked + Copy> Line<'a, T> {
     pub fn put(&mut self, x: T) -> Result<(), LineRefusal>
         ensures lent { self.new.slots.ghost_name ≡ self.old.slots.ghost_name }
         ensures sized { length self.new.slots.now ≡ length self.old.slots.now }
-        ensures put { Put less x self.old self.new result }
+        ensures put { Put T.less x self.old self.new result }
     {
         let Line { slots, count } = self;
         if *count == slots.len() {
@@ -62,7 +62,7 @@ impl<'a, T: Ranked + Copy> Line<'a, T> {
     pub fn take(&mut self, place: usize) -> Option<T>
         ensures lent { self.new.slots.ghost_name ≡ self.old.slots.ghost_name }
         ensures sized { length self.new.slots.now ≡ length self.old.slots.now }
-        ensures taken { Take less place self.old self.new result }
+        ensures taken { Take T.less place self.old self.new result }
     {
         let Line { slots, count } = self;
         if place >= *count {

@@ -16,8 +16,8 @@ returns-in-len1-up c =
       due = due_taken c.args.clock d old c.take.new.self c.take.result le c.take.ensures.taken;
     }
 
-pub returns-in_default·2 : goal.returns-in_default·2
-returns-in_default·2 c =
+pub returns-in_default-2 : goal.returns-in_default-2
+returns-in_default-2 c =
     let d : Booking = record { tick = 0; task = 0 } in
     let e = ap (λ bs. (get_or bs 0 d).tick) c.records.ensures in
     let late : c.args.clock < (get_or (held c.args.self.now) 0 d).tick = omega arith in
