@@ -15,7 +15,7 @@ invariant_of-result g c =
     let n = c.match-fits.tasks in
     let listed : n ≤ length (planned c.args.plan).tasks = elim c.match-fits.branch [ in-Ok w ↦ omega (arith, w.tasks-is, w.tasks-tasks.ensures) | in-Err w ↦ omega (arith, w.tasks-is) ] in
     let few : n ≤ 64 = omega (arith, (plan_lawful c.args.plan).few) in
-    (few, (omega arith, (listed, ((λ i l. c.of-jobs.ensures.bins i (omega arith)), ((λ i l. c.of-jobs.ensures.left i), tt)))))
+    record { few = few; timely = omega arith; listed = listed; placed = λ i l. c.of-jobs.ensures.bins i (omega arith); rest = λ i l. c.of-jobs.ensures.left i }
 
 pub returns : goal.returns
 returns g c =

@@ -10,7 +10,7 @@ invariant_of-self g c =
     let w = work_of s in
     let m = g.L.Layout.meaning s.layout in
     let rest = rests w m s.clock s.jobs.slots c.run_bins.new.jobs.slots (holds_of s) (c.run_bins.ensures.jobs w (holds_of s)) in
-    (s.few, (omega arith, (s.listed, ((λ i l. c.run_bins.ensures.bins i ∙ s.placed i l), (rest, tt)))))
+    record { few = s.few; timely = omega arith; listed = s.listed; placed = λ i l. c.run_bins.ensures.bins i ∙ s.placed i l; rest = rest }
 
 pub returns : goal.returns
 returns g c =
