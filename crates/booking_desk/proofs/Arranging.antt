@@ -1,13 +1,13 @@
 -- Bookings put into a line one after another.
-use Rattle.std.proofs.Common.{◌≡◌, ℕ, ◌+◌, ◌<◌, ◌≤◌, true, false, List, [], ◌++◌, length, get_or, take, drop, is_err, Ok, Err, Result, sym, refl, ap, ◌∙◌, arith}
-use Rattle.std.proofs.lemmas.List.{length-drop, drop-drop, take-append-drop}
+use Rattle.std.proofs.Common.{◌≡◌, ℕ, ◌+◌, ◌<◌, ◌≤◌, true, false, List, length, get_or, take, drop, is_err, Ok, Err, Result, sym, refl, ap, ◌∙◌, arith}
+use Rattle.std.proofs.lemmas.List.{length-drop, drop-drop}
 use Rattle.std.proofs.lemmas.List.Sums.{fold_more}
 use Rattle.std.proofs.lemmas.Bool.{both_ways}
 use Rattle.order.specs.declared.line.Line.{Line}
 use Rattle.order.specs.declared.line.LineRefusal.{LineRefusal}
 use Rattle.order.specs.declared.booking.Booking.{Booking}
 use Rattle.order.specs.Orders.{placed}
-use Rattle.order.specs.Lines.{held, spare, Entered, Put, Untouched}
+use Rattle.order.specs.Lines.{held, spare, Put}
 use Rattle.order.specs.Bookings.{earlier}
 use Rattle.booking_desk.specs.Timetable.{arranged}
 

@@ -1,9 +1,9 @@
 -- The head of a section, by its bytes.
-use Rattle.std.proofs.Common.{◌≡◌, ℕ, ◌+◌, ◌-◌, ◌<◌, ◌≤◌, true, List, [], ◌∷◌, ◌++◌, length, get_or, take, drop, Some, None, sym, refl, ap, ◌∙◌, subst, arith}
+use Rattle.std.proofs.Common.{◌≡◌, ℕ, ◌+◌, ◌-◌, ◌≤◌, true, List, length, get_or, take, drop, None, sym, ap, ◌∙◌, subst, arith}
 use Rattle.std.proofs.lemmas.List.{length-take-le, length-drop}
 use Rattle.file_parts.specs.declared.due.Due.{Due}
 use Rattle.file_parts.specs.declared.section.Section.{Section}
-use Rattle.file_reader.specs.Bytes.{two, word_at, Stands}
+use Rattle.file_reader.specs.Bytes.{two, Stands}
 use Rattle.file_reader.specs.Faults.{its_turn, section_fault}
 use Rattle.file_parts.specs.Sections.{letter_of, body_of, letter_place}
 use Rattle.file_reader.specs.Readers.{HeadRead}

@@ -1,22 +1,21 @@
 -- A file, section by section: what has been read of it so far.
-use Rattle.std.proofs.Common.{◌≡◌, ℕ, ◌+◌, min, Bool, true, false, List, [], ◌∷◌, ◌++◌, length, take, drop, Some, None, sym, refl, ap, ◌∙◌, subst, arith, Bor}
+use Rattle.std.proofs.Common.{◌≡◌, ℕ, min, Bool, true, false, List, [], ◌∷◌, ◌++◌, length, take, drop, Some, None, sym, refl, ap, ◌∙◌, subst, arith, Bor}
 use Rattle.std.specs.List.{flat_map}
 use Rattle.std.proofs.lemmas.List.{flat_map_more, append-nil, append_assoc, take_all, length-take}
 use Rattle.plan.specs.Rows.{Task}
-use Rattle.file_parts.specs.declared.call.Call.{Call}
 use Rattle.file_parts.specs.declared.due.Due.{Due}
 use Rattle.file_parts.specs.declared.due.Due.TheVariants.{Table, Calls, Notes}
 use Rattle.file_parts.specs.declared.fault.Fault.{Fault}
 use Rattle.file_parts.specs.declared.settings.Settings.{Settings}
 use Rattle.file_parts.specs.declared.section.Section.{Section}
 use Rattle.file_parts.specs.declared.section.Section.TheVariants as kind
-use Rattle.file_reader.specs.Bytes.{two, Stands}
-use Rattle.file_reader.specs.Grammar.{Part, Rows, Called, Note, Parts, Follows, layout_letter, header, section, row_bytes, call_bytes, part_bytes, tasks_in, calls_in, noted}
+use Rattle.file_reader.specs.Bytes.{Stands}
+use Rattle.file_reader.specs.Grammar.{Part, Rows, Called, Note, Parts, Follows, layout_letter, header, section, call_bytes, part_bytes, tasks_in, calls_in, noted}
 use Rattle.file_parts.specs.Sections.{letter_of, body_of}
 use Rattle.file_reader.specs.Steps.{rows_after, SectionTaken, SectionFaulty}
 use Rattle.file_reader.specs.declared.reader.Reader.{Reader}
 use Rattle.file_reader.specs.Readers.{noted_after, Came}
-use Rattle.file_reader.specs.Meaning.{Whole, Begun, Holds, FirstFault}
+use Rattle.file_reader.specs.Meaning.{Begun, Holds, FirstFault}
 use Rattle.file_reader.proofs.Spelling.{take_add}
 
 -- the file up to p: settings, tasks, the bytes of the calls, and whether there were notes

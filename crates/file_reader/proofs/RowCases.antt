@@ -1,13 +1,10 @@
 -- A row read from a part of a file, and the row that stands in the file.
-use Rattle.std.proofs.Common.{◌≡◌, ℕ, suc, ◌+◌, ◌-◌, ◌*◌, ◌<◌, ◌≤◌, Bool, true, false, cond, ◌&&◌, ltb, ◌⊎◌, List, [], ◌∷◌, ◌++◌, length, get_or, take, drop, Some, None, Option, sym, refl, ap, ◌∙◌, subst, inl, inr, ⊎_elim, arith}
+use Rattle.std.proofs.Common.{◌≡◌, ℕ, ◌+◌, ◌-◌, ◌*◌, ◌<◌, ◌≤◌, Bool, true, false, cond, ltb, ◌⊎◌, List, length, get_or, take, drop, Some, sym, ap, ◌∙◌, inl, inr, ⊎_elim, arith}
 use Rattle.std.proofs.lemmas.List.{length-take-le, length-drop, get_or-take, get_or-drop, take-take, drop-drop, drop-take}
 use Rattle.std.proofs.lemmas.Bool.{cases_Bool, cases_lt, lt-ltb, le-ltb, cond-true, cond-false}
-use Rattle.plan.specs.Rows.{Task}
 use Rattle.file_reader.specs.declared.rows.RowRead.{RowRead}
-use Rattle.file_parts.specs.declared.fault.Fault.{Fault}
 use Rattle.file_parts.specs.declared.fault.Fault.TheVariants.{Name, Cut}
 use Rattle.file_reader.specs.Bytes.{word_at, long_at, Stands}
-use Rattle.file_reader.specs.Grammar.{row_bytes}
 use Rattle.file_reader.specs.Faults.{name_length, task_at, refused, row_told, row_fault}
 use Rattle.file_reader.specs.RowReads.{failed, row_read, row_used}
 

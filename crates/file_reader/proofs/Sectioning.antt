@@ -1,5 +1,5 @@
 -- A section, by its head and what its body was read as.
-use Rattle.std.proofs.Common.{◌≡◌, ℕ, zero, suc, ◌+◌, ◌<◌, ◌≤◌, Bool, true, false, cond, ◌||◌, eqb, List, [], ◌∷◌, ◌++◌, length, take, drop, Some, None, Option, sym, refl, ap, ◌∙◌, subst, inl, inr, ⊎_elim, arith}
+use Rattle.std.proofs.Common.{◌≡◌, ℕ, ◌+◌, ◌≤◌, true, eqb, List, [], ◌∷◌, length, take, drop, Some, sym, refl, ap, ◌∙◌, subst, ⊎_elim, arith}
 use Rattle.std.specs.List.{flat_map}
 use Rattle.std.proofs.lemmas.Bool.{cases_eq, eq-eqb, ne_eqb, cond-true, cond-false, true≢false}
 use Rattle.plan.specs.Rows.{Task}
@@ -10,10 +10,10 @@ use Rattle.file_parts.specs.declared.fault.Fault.{Fault}
 use Rattle.file_parts.specs.declared.fault.Fault.TheVariants.{ShortFile}
 use Rattle.file_parts.specs.declared.section.Section.{Section}
 use Rattle.file_reader.specs.Bytes.{two, Stands}
-use Rattle.file_reader.specs.Grammar.{Part, Rows, Called, Note, section, row_bytes, call_bytes, part_bytes, Taken, GoodCalls, Follows}
+use Rattle.file_reader.specs.Grammar.{Part, Rows, Called, Note, section, row_bytes, call_bytes, part_bytes, Follows}
 use Rattle.file_reader.specs.Faults.{its_turn, section_fault}
-use Rattle.file_parts.specs.Sections.{letter_of, body_of, letter_place}
-use Rattle.file_reader.specs.Steps.{RowsTaken, CallsTaken, rows_after, SectionTaken, SectionFaulty}
+use Rattle.file_parts.specs.Sections.{letter_of, body_of}
+use Rattle.file_reader.specs.Steps.{RowsTaken, rows_after, SectionTaken, SectionFaulty}
 use Rattle.file_reader.specs.Readers.{no_table, head_fault, HeadRead, RowsBroken, CallsBroken, CallsWhole}
 use Rattle.file_reader.proofs.Spelling.{append_stands}
 

@@ -3,7 +3,7 @@ use Rattle.std.proofs.Common.{◌≡◌, ℕ, suc, ◌+◌, ◌-◌, ◌*◌, �
 use Rattle.std.proofs.lemmas.List.{drop_more, length-append, take-append-drop, take-take, drop-drop, drop-take, get_or-take, get_or-drop}
 use Rattle.plan.specs.Rows.{Task}
 use Rattle.file_parts.specs.declared.settings.Settings.{Settings}
-use Rattle.file_reader.specs.Bytes.{two, four, word_at, long_at, Stands}
+use Rattle.file_reader.specs.Bytes.{two, four, word_at, Stands}
 use Rattle.file_reader.specs.Grammar.{header, row_bytes}
 
 -- one byte, and what follows it

@@ -5,9 +5,8 @@ use Rattle.std.proofs.lemmas.List.{flat_map_more, length-append}
 use Rattle.plan.specs.Rows.{Task}
 use Rattle.file_parts.specs.declared.call.Call.{Call}
 use Rattle.file_reader.specs.Bytes.{Stands}
-use Rattle.file_reader.specs.Grammar.{row_bytes, call_bytes, Taken, GoodCalls, Counts, none, one_more}
-use Rattle.file_reader.specs.Grammar as grammar
-use Rattle.file_reader.specs.Steps.{RowTaken, RowsTaken, CallsTaken}
+use Rattle.file_reader.specs.Grammar.{row_bytes, call_bytes, Taken, GoodCalls, Counts}
+use Rattle.file_reader.specs.Steps.{RowTaken, RowsTaken}
 use Rattle.file_reader.specs.Readers.{CallsWhole}
 use Rattle.file_reader.proofs.Spelling.{append_stands}
 

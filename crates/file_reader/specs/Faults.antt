@@ -1,5 +1,5 @@
 -- What is wrong with a piece of a file: refusal and place. A piece's fields are tested from left to right.
-use Rattle.std.specs.Prelude.{◌≡◌, ℕ, ◌+◌, Bool, true, false, cond, not, ◌&&◌, ◌||◌, List, length, take, drop, Some, None, Option, ◌==◌, nat_lt, slice_index}
+use Rattle.std.specs.Prelude.{ℕ, ◌+◌, Bool, cond, ◌&&◌, ◌||◌, List, length, take, drop, Some, None, Option, ◌==◌, nat_lt, slice_index}
 use Rattle.plan.specs.Rows.{Task, row_refusal}
 use Rattle.plan.specs.declared.refusal.RowRefusal.{RowRefusal}
 use Rattle.plan.specs.declared.refusal.RowRefusal.TheVariants.{NameLength, NameByte, NoBudget, LongPeriod, BudgetAbovePeriod, TableFull}

@@ -1,5 +1,5 @@
 -- What reading a row answers.
-use Rattle.std.specs.Prelude.{ℕ, ◌+◌, cond, ◌&&◌, List, length, nat_lt, slice_index}
+use Rattle.std.specs.Prelude.{ℕ, ◌+◌, cond, List, length, nat_lt, slice_index}
 use Rattle.file_reader.specs.declared.rows.RowRead.{RowRead}
 use Rattle.file_reader.specs.Bytes.{long_at}
 use Rattle.file_reader.specs.Faults.{name_length}

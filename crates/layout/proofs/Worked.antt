@@ -1,5 +1,5 @@
 -- The worked cases of layouts, by computing.
-use Rattle.std.proofs.Common.{◌≡◌, ℕ, refl, arith}
+use Rattle.std.proofs.Common.{refl, arith}
 use Rattle.plan.specs.Method.{up}
 use Rattle.layout_laws.specs.Offset.{offset}
 use Rattle.layout_laws.specs.Shares.{before}

@@ -1,5 +1,5 @@
 -- What the arrays of shares hold.
-use Rattle.std.specs.Prelude.{◌≡◌, ℕ, take}
+use Rattle.std.specs.Prelude.{◌≡◌, take}
 use Rattle.plan.specs.Closing.{Planned}
 use Rattle.layout.specs.declared.shares.Shares.{Shares}
 

@@ -1,9 +1,9 @@
 -- The two laws of the dedicated layout.
-use Rattle.std.proofs.Common.{◌≡◌, ℕ, zero, suc, ◌+◌, ◌*◌, ◌<◌, ◌≤◌, Bool, true, false, cond, ltb, List, length, get_or, Some, None, sym, refl, ap, ◌∙◌, subst, ⊎_elim, mul-le-mul_right, arith}
+use Rattle.std.proofs.Common.{◌≡◌, ℕ, zero, suc, ◌+◌, ◌*◌, ◌<◌, ◌≤◌, cond, ltb, List, length, get_or, Some, None, sym, refl, ap, ◌∙◌, ⊎_elim, mul-le-mul_right, arith}
 use Rattle.std.proofs.lemmas.List.{get_or_past}
 use Rattle.std.proofs.lemmas.Bool.{cases_lt, lt-ltb, le-ltb, cond-true, cond-false}
 use Rattle.plan.specs.Method.{full}
-use Rattle.layout_laws.specs.Meaning.{horizon, Meaning, in_time, one, supplied, Formed, Exclusive, Supplies}
+use Rattle.layout_laws.specs.Meaning.{horizon, one, supplied, Formed, Exclusive, Supplies}
 use Rattle.layout_laws.specs.Dedicated.{dedicated}
 use Rattle.layout_laws.proofs.FlatLaws.{Answered, answered}
 use Rattle.layout_laws.proofs.Supply.{timed, in_range, timed_formed, supply_none}

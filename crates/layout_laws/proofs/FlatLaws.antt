@@ -1,15 +1,15 @@
 -- The two laws of the flat layout.
-use Rattle.std.proofs.Common.{◌≡◌, ℕ, zero, suc, ◌+◌, ◌-◌, ◌*◌, ◌/◌, ◌%◌, ◌<◌, ◌≤◌, Bool, true, false, cond, ltb, ◌⊎◌, List, [], ◌∷◌, length, get_or, Some, None, Option, sym, refl, ap, ◌∙◌, subst, inl, inr, ⊎_elim, arith}
+use Rattle.std.proofs.Common.{◌≡◌, ℕ, suc, ◌+◌, ◌*◌, ◌/◌, ◌<◌, ◌≤◌, Bool, true, false, cond, ltb, List, length, Some, None, refl, ap, subst, ⊎_elim, arith}
 use native.Mathlib.Nat.{div-add-mod}
 use Rattle.std.proofs.lemmas.Nat.{div_below}
 use Rattle.std.proofs.lemmas.Bool.{cases_order, cases_lt, ltb-true, le-ltb, cond-false}
 use Rattle.std.proofs.lemmas.List.{get_or_past}
 use Rattle.plan.specs.Method.{full}
 use Rattle.layout_laws.specs.Offset.{offset}
-use Rattle.layout_laws.specs.Meaning.{in_time, supplied, Formed, Exclusive, Supplies}
-use Rattle.layout_laws.specs.Shares.{share, before, Fit, Carry}
+use Rattle.layout_laws.specs.Meaning.{supplied, Formed, Exclusive, Supplies}
+use Rattle.layout_laws.specs.Shares.{share, Fit, Carry}
 use Rattle.layout_laws.specs.Flat.{start, flat_serves, flat}
-use Rattle.layout_laws.proofs.Offset.{offset_is, same_near}
+use Rattle.layout_laws.proofs.Offset.{offset_is}
 use Rattle.layout_laws.proofs.Sums.{before_more, before_mono, before_total}
 use Rattle.layout_laws.proofs.Supply.{timed, timed_formed, supply_of, supply_none}
 

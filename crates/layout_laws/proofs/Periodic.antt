@@ -1,9 +1,9 @@
 -- How much of a window a periodic service serves, and the supply law.
-use Rattle.std.proofs.Common.{◌≡◌, ℕ, zero, suc, ◌+◌, ◌-◌, ◌*◌, ◌/◌, ◌%◌, ◌<◌, ◌≤◌, min, Bool, true, false, cond, ltb, ◌⊎◌, sym, refl, ap, ◌∙◌, subst, inl, inr, ⊎_elim, mul-le-mul_right, mod-lt, mul-le-mul_left, arith}
+use Rattle.std.proofs.Common.{◌≡◌, ℕ, zero, suc, ◌+◌, ◌-◌, ◌*◌, ◌/◌, ◌%◌, ◌<◌, ◌≤◌, min, ltb, ◌⊎◌, sym, refl, ap, ◌∙◌, subst, inl, inr, ⊎_elim, mul-le-mul_right, mod-lt, mul-le-mul_left, arith}
 use native.Mathlib.Nat.{div-add-mod, add-mod-mod, le_of_mul-le-mul_left}
 use Rattle.std.proofs.lemmas.Nat.{div-mul-add, mod-mul-add, le-div}
 use Rattle.std.proofs.lemmas.Bool.{cases_lt, lt-ltb, le-ltb, cond-true, cond-false}
-use Rattle.layout_laws.specs.Offset.{offset, IsOffset}
+use Rattle.layout_laws.specs.Offset.{offset}
 use Rattle.layout_laws.specs.Periodic.{ones, served, count, serving}
 use Rattle.layout_laws.proofs.Offset.{offset_is, offset_only, shift_rest}
 

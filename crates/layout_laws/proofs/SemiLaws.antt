@@ -1,5 +1,5 @@
 -- The two laws of the semi-partitioned layout.
-use Rattle.std.proofs.Common.{◌≡◌, ℕ, zero, suc, ◌+◌, ◌-◌, ◌*◌, ◌/◌, ◌%◌, ◌<◌, ◌≤◌, Bool, true, false, cond, ltb, leb, ◌⊎◌, List, [], ◌∷◌, length, get_or, Some, None, Option, sym, refl, ap, ◌∙◌, subst, inl, inr, ⊎_elim, arith}
+use Rattle.std.proofs.Common.{◌≡◌, ℕ, zero, suc, ◌+◌, ◌-◌, ◌*◌, ◌%◌, ◌<◌, ◌≤◌, Bool, true, false, cond, ltb, leb, ◌⊎◌, List, length, Some, None, sym, refl, ap, ◌∙◌, subst, inl, inr, ⊎_elim, arith}
 use Rattle.std.proofs.lemmas.List.{get_or_past}
 use Rattle.std.proofs.lemmas.Bool.{cases_order, cases_lt, ltb-true, ltb-false, leb-true, leb-false, lt-ltb, le-ltb, cond-true, cond-false}
 use Rattle.layout_laws.specs.Offset.{offset}
@@ -10,7 +10,7 @@ use Rattle.layout_laws.specs.Semi.{room, free, shared, find, own_serves, shared_
 use Rattle.layout_laws.proofs.Offset.{offset_is, same_near}
 use Rattle.layout_laws.proofs.Sums.{before_none, before_more, before_mono, before_add, before_total}
 use Rattle.layout_laws.proofs.Supply.{timed, timed_formed, supply_of, supply_none}
-use Rattle.layout_laws.proofs.FlatLaws.{Answered, answered}
+use Rattle.layout_laws.proofs.FlatLaws.{answered}
 
 -- what is found lies between two values of f
 record Found (f : ℕ → ℕ) (x n q : ℕ) : Type 0 where

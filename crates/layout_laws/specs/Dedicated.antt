@@ -1,5 +1,5 @@
 -- The dedicated layout: bin p has processor p to itself.
-use Rattle.std.specs.Prelude.{ℕ, cond, List, length, Some, None, Option, nat_lt, slice_index}
+use Rattle.std.specs.Prelude.{ℕ, cond, List, length, Some, None, nat_lt, slice_index}
 use Rattle.layout_laws.specs.Meaning.{Meaning, in_time}
 
 -- m processors, shortest period T and loads ws

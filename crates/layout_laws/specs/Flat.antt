@@ -1,5 +1,5 @@
 -- The flat layout: the reserves one after another, wrapped at the end of each processor.
-use Rattle.std.specs.Prelude.{◌≡◌, ℕ, zero, suc, ◌+◌, ◌*◌, ◌/◌, ◌<◌, ◌≤◌, Bool, true, false, cond, List, [], ◌∷◌, length, Some, None, Option, nat_lt, slice_index}
+use Rattle.std.specs.Prelude.{ℕ, ◌+◌, ◌/◌, cond, List, length, Some, None, Option, nat_lt, slice_index}
 use Rattle.layout_laws.specs.Offset.{offset}
 use Rattle.layout_laws.specs.Meaning.{Meaning, in_time}
 use Rattle.layout_laws.specs.Shares.{share, before}

@@ -1,5 +1,5 @@
 -- Periodic service: a bin that starts at A is served in R of every S ticks.
-use Rattle.std.specs.Prelude.{◌≡◌, ℕ, zero, suc, ◌+◌, ◌-◌, ◌*◌, ◌<◌, ◌≤◌, Bool, true, false, cond, nat_lt}
+use Rattle.std.specs.Prelude.{ℕ, zero, suc, ◌+◌, Bool, cond, nat_lt}
 use Rattle.layout_laws.specs.Offset.{offset}
 
 unfoldable pub served : ℕ → ℕ → ℕ → ℕ → Bool

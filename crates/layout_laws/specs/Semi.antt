@@ -1,6 +1,6 @@
 -- The semi-partitioned layout: bin q below m has the end of processor q's slot, and the other bins share what is left, wrapped over the
 -- processors.
-use Rattle.std.specs.Prelude.{◌≡◌, ℕ, zero, suc, ◌+◌, ◌-◌, ◌*◌, ◌/◌, ◌<◌, ◌≤◌, Bool, true, false, cond, List, [], ◌∷◌, length, Some, None, Option, nat_le, nat_lt, slice_index}
+use Rattle.std.specs.Prelude.{ℕ, zero, suc, ◌+◌, ◌-◌, ◌<◌, ◌≤◌, cond, List, length, Some, None, Option, nat_le, nat_lt, slice_index}
 use Rattle.layout_laws.specs.Offset.{offset}
 use Rattle.layout_laws.specs.Meaning.{Meaning, in_time}
 use Rattle.layout_laws.specs.Shares.{share, before}

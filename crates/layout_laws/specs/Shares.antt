@@ -1,5 +1,5 @@
 -- What a layout is made from: the reserve of each bin, in slots of S ticks, on m processors.
-use Rattle.std.specs.Prelude.{◌≡◌, ℕ, zero, suc, ◌+◌, ◌*◌, ◌<◌, ◌≤◌, List, [], ◌∷◌, length, sum, slice_index}
+use Rattle.std.specs.Prelude.{ℕ, zero, suc, ◌+◌, ◌*◌, ◌<◌, ◌≤◌, List, sum, slice_index}
 use Rattle.plan.specs.Method.{full}
 
 -- the reserve of bin p: 0 where there is none

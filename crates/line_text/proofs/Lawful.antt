@@ -1,6 +1,6 @@
 -- The digits of a number are its decimal ones.
-use Rattle.std.proofs.Common.{◌≡◌, ℕ, zero, suc, ◌+◌, ◌-◌, ◌*◌, ◌^◌, ◌<◌, ◌≤◌, List, [], ◌∷◌, map, length, get_or, decimal, sym, refl, ap, ◌∙◌, subst, arith, rules}
-use Rattle.std.specs.Int.Digits.{digits_of, number_from_digits_after}
+use Rattle.std.proofs.Common.{◌≡◌, ℕ, zero, suc, ◌+◌, ◌-◌, ◌*◌, ◌^◌, ◌<◌, List, [], ◌∷◌, map, length, get_or, decimal, sym, refl, ap, ◌∙◌, subst, arith, rules}
+use Rattle.std.specs.Int.Digits.{number_from_digits_after}
 use Rattle.std.specs.List.{AllByRecursion as All}
 use Rattle.std.proofs.lemmas.Fmt.{decimal_digit, decimal-digits_of, decimal-digits_value}
 use Rattle.std.proofs.lemmas.Int.Digits.{first_digits_of}

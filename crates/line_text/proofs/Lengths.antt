@@ -7,7 +7,7 @@ use Rattle.line_text.specs.declared.line.Asked.TheVariants.{Request, Done}
 use Rattle.line_text.specs.declared.line.Line.{Line}
 use Rattle.line_text.specs.declared.line.Line.TheVariants.{Plan, Bin, Tick, TickRefused, Answer, End, FileRefused, RowRefused, Refused}
 use Rattle.line_text.specs.Decimals.{digits}
-use Rattle.line_text.specs.Texts.{field, entry, called, answered, ended, text, Short}
+use Rattle.line_text.specs.Texts.{field, entry, called, answered, ended, Short}
 use Rattle.line_text.proofs.Spelled.{few_digits}
 
 -- the numbers fit the types of their fields

@@ -1,5 +1,5 @@
 -- A line in pieces: how long it is.
-use Rattle.std.proofs.Common.{◌≡◌, ℕ, ◌+◌, List, [], ◌∷◌, ◌++◌, length, arith}
+use Rattle.std.proofs.Common.{◌≡◌, ◌+◌, [], ◌∷◌, ◌++◌, length, arith}
 use Rattle.std.proofs.lemmas.List.{length-append}
 use Rattle.line_text.specs.declared.piece.Pieces.{Pieces}
 use Rattle.line_text.specs.Spellings.{piece_text, spelled}

@@ -3,7 +3,6 @@ use Rattle.std.proofs.Common.{◌≡◌, ℕ, Bool, List, [], ◌∷◌, length,
 use Rattle.std.specs.List.{slice_get}
 use Rattle.order.specs.declared.line.Line.{Line}
 use Rattle.order.specs.declared.line.LineRefusal.{LineRefusal}
-use Rattle.order.specs.declared.line.LineRefusal.TheVariants.{Full}
 use Rattle.order.specs.Orders.{placed, without}
 use Rattle.order.specs.Lines.{held, spare, Put, Take}
 

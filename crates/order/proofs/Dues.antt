@@ -1,5 +1,5 @@
 -- Bookings in order: what is due, and the earliest of a task.
-use Rattle.std.proofs.Common.{◌≡◌, ℕ, zero, suc, ◌+◌, ◌-◌, ◌<◌, ◌≤◌, Bool, true, false, cond, List, [], ◌∷◌, ◌++◌, length, get_or, take, drop, Some, None, Option, sym, refl, ap, ◌∙◌, subst, suc-le-suc, zero-le, le_of_suc-le-suc, not-suc-le-zero, arith}
+use Rattle.std.proofs.Common.{◌≡◌, ℕ, zero, suc, ◌<◌, ◌≤◌, false, List, [], ◌∷◌, length, get_or, Some, None, Option, sym, refl, ap, ◌∙◌, subst, suc-le-suc, zero-le, not-suc-le-zero, arith}
 use Rattle.std.specs.List.{slice_get}
 use Rattle.std.proofs.lemmas.Bool.Decides.{nat_tests}
 use Rattle.std.proofs.lemmas.Option.{slice_get-get_or}
@@ -7,8 +7,8 @@ use Rattle.order.specs.declared.line.Line.{Line}
 use Rattle.order.specs.declared.booking.Booking.{Booking}
 use Rattle.order.specs.Orders.{Sorted, without}
 use Rattle.order.specs.Picks.{Least, Picked}
-use Rattle.order.specs.Lines.{held, spare, Untouched, Take}
-use Rattle.order.specs.Bookings.{earlier, TakenDue, NoneDue, Due, EarliestIs, Earliest}
+use Rattle.order.specs.Lines.{held, Take}
+use Rattle.order.specs.Bookings.{earlier, Due, Earliest}
 
 -- what does not come before a booking has no earlier tick
 not_earlier : (a b : Booking) → earlier a b ≡ false → b.tick ≤ a.tick

@@ -1,5 +1,5 @@
 -- A file that is written piece by piece.
-use Rattle.std.proofs.Common.{◌≡◌, ℕ, ◌+◌, ◌<◌, ◌≤◌, true, false, cond, eqb, List, [], ◌∷◌, ◌++◌, length, sym, refl, ap, ◌∙◌, subst, arith}
+use Rattle.std.proofs.Common.{◌≡◌, ℕ, ◌+◌, ◌≤◌, true, false, cond, eqb, List, [], ◌∷◌, ◌++◌, length, sym, refl, ap, ◌∙◌, subst, arith}
 use Rattle.std.specs.List.{flat_map}
 use Rattle.std.proofs.lemmas.List.{append_assoc, length-append, take_all}
 use Rattle.std.proofs.lemmas.Bool.{true≢false, ne_eqb, cond-false}
@@ -7,7 +7,7 @@ use Rattle.plan.specs.Rows.{Task}
 use Rattle.file_parts.specs.declared.settings.Settings.{Settings}
 use Rattle.planfile.specs.Areas.{placed}
 use Rattle.file_reader.specs.Bytes.{two}
-use Rattle.file_reader.specs.Grammar.{Taken, layout_letter, header, section, call_bytes}
+use Rattle.file_reader.specs.Grammar.{Taken, layout_letter, section, call_bytes}
 use Rattle.file_reader.specs.Readers.{CallsWhole}
 use Rattle.file_reader.specs.Meaning.{Accepted, Means, calls_section, written}
 use Rattle.file_reader.proofs.RoundTrip.{reads_back}

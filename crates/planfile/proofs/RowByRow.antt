@@ -1,5 +1,5 @@
 -- The rows of a table, written one after the other.
-use Rattle.std.proofs.Common.{◌≡◌, ℕ, zero, suc, ◌+◌, ◌<◌, ◌≤◌, List, [], ◌∷◌, ◌++◌, length, get_or, take, drop, Some, None, Option, sym, refl, ap, ◌∙◌, subst, arith}
+use Rattle.std.proofs.Common.{◌≡◌, ℕ, zero, suc, ◌+◌, ◌<◌, ◌≤◌, List, [], ◌∷◌, ◌++◌, length, get_or, take, drop, Some, None, Option, sym, refl, ap, ◌∙◌, arith}
 use Rattle.std.specs.List.{flat_map, slice_get}
 use Rattle.std.specs.Option.{option_map}
 use Rattle.std.proofs.lemmas.List.{append-nil, append_assoc, length-append, take-append-drop}
@@ -7,10 +7,8 @@ use Rattle.std.proofs.lemmas.Option.{slice_get-get_or}
 use Rattle.plan.specs.Rows.{Task}
 use Rattle.plan.specs.Views.{task_of}
 use Rattle.plan.specs.declared.row.Row.{Row}
-use Rattle.planfile.specs.Areas.{placed}
 use Rattle.file_reader.specs.Grammar.{Taken, row_bytes}
 use Rattle.file_reader.proofs.GoodRows.{rows_short}
-use Rattle.planfile.proofs.Placing.{placed_then}
 
 joined_append : {X : Type 0} (b : X → List ℕ) (xs ys : List X) → flat_map b (xs ++ ys) ≡ flat_map b xs ++ flat_map b ys
 joined_append b [] ys = refl

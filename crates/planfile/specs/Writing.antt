@@ -7,7 +7,7 @@ use Rattle.file_parts.specs.declared.not_written.NotWritten.TheVariants.{Letter,
 use Rattle.file_parts.specs.declared.settings.Settings.{Settings}
 use Rattle.file_reader.specs.Grammar.{layout_letter}
 use Rattle.file_reader.specs.Readers.{CallsWhole, CallsBroken}
-use Rattle.file_reader.specs.Meaning.{Answer, Accepted, Means, Only, written}
+use Rattle.file_reader.specs.Meaning.{Accepted, Means, Only, written}
 
 -- letter, calls, their length, and then the area; what is tested later counts only where all before it is good
 pub data IsNotWritten (h : Settings) (ts : List Task) (calls area : List ℕ) : NotWritten → Type 0 where

@@ -1,17 +1,16 @@
 -- The worked run is a run.
-use Rattle.std.proofs.Common.{◌≡◌, ℕ, zero, suc, ◌+◌, ◌-◌, ◌*◌, ◌<◌, ◌≤◌, ◌⊎◌, List, [], ◌∷◌, length, get_or, Some, None, Option, sym, refl, ap, ◌∙◌, subst, inl, inr, ⊎_elim, arith}
-use Rattle.std.proofs.lemmas.Bool.{cases_eq, cases_lt}
+use Rattle.std.proofs.Common.{◌≡◌, ℕ, zero, suc, ◌+◌, ◌-◌, ◌<◌, ◌≤◌, ◌⊎◌, [], ◌∷◌, get_or, Some, None, Option, sym, refl, ap, ◌∙◌, subst, inr, arith}
 use Rattle.plan.specs.Method.{up}
 use Rattle.layout_laws.specs.Offset.{offset}
 use Rattle.layout_laws.specs.Meaning.{Meaning, Exclusive, Formed, horizon}
-use Rattle.layout_laws.specs.Shares.{share, before, Fit}
+use Rattle.layout_laws.specs.Shares.{share, before}
 use Rattle.layout_laws.proofs.FlatLaws.{flat_exclusive, flat_formed}
 use Rattle.schedule.specs.Work.{Work}
 use Rattle.schedule.specs.State.{State, Stays, Unchanged, Fresh}
-use Rattle.schedule.specs.Steps.{Requested, Chosen, Runs, Running, Row, Ticked}
+use Rattle.schedule.specs.Steps.{Requested, Runs, Running, Ticked}
 use Rattle.schedule.specs.History.{requests, ticks, start, more, Run}
 use Rattle.schedule.proofs.Choice.{runs_once}
-use Rattle.runner.specs.Examples.{the_plan, the_tasks, the_layout, both, calls}
+use Rattle.runner.specs.Examples.{the_tasks, the_layout, both, calls}
 
 same : (s : State) → Unchanged s s
 same s = record { clock = refl; jobs = λ i. record { deadline = refl; left = refl } }

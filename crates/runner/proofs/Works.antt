@@ -1,5 +1,5 @@
 -- A runner's tasks are those of its plan.
-use Rattle.std.proofs.Common.{◌≡◌, ℕ, ◌*◌, ◌<◌, ◌≤◌, length, get_or, Some, None, Option, sym, refl, ap, ◌∙◌, subst, arith}
+use Rattle.std.proofs.Common.{◌≡◌, ℕ, ◌*◌, ◌<◌, ◌≤◌, length, get_or, Some, None, Option, sym, ap, ◌∙◌, subst, arith}
 use Rattle.std.specs.Option.{option_map}
 use Rattle.std.specs.List.{slice_get}
 use Rattle.std.proofs.lemmas.Option.{slice_get-get_or}
@@ -10,7 +10,7 @@ use Rattle.plan.specs.Views.{task_of}
 use Rattle.std.proofs.lemmas.List.{length-map, get_or-map}
 use Rattle.plan.specs.declared.plan.Plan.{Plan}
 use Rattle.plan.specs.Closing.{charges_of}
-use Rattle.plan.specs.Laws.{total, LeastAbove}
+use Rattle.plan.specs.Laws.{total}
 use Rattle.plan.specs.Method.{full, charge}
 use Rattle.plan.specs.Plans.{planned}
 use Rattle.plan.proofs.Plans.{plan_lawful}

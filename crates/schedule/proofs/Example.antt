@@ -2,7 +2,7 @@
 use Rattle.std.proofs.Common.{◌≡◌, ℕ, zero, suc, ◌+◌, ◌*◌, ◌<◌, ◌≤◌, Bool, true, false, cond, eqb, ◌⊎◌, [], ◌∷◌, get_or, Some, None, Option, sym, refl, ap, ◌∙◌, subst, inl, inr, ⊎_elim, arith}
 use Rattle.std.proofs.lemmas.Bool.{cases_eq, cases_Bool, ne_eqb, eqb-true, cond-true, cond-false}
 use Rattle.layout_laws.specs.Meaning.{horizon, supplied}
-use Rattle.schedule.specs.Work.{own, over, Sound}
+use Rattle.schedule.specs.Work.{Sound}
 use Rattle.schedule.specs.State.{State, Stays, Unchanged}
 use Rattle.schedule.specs.Steps.{Requested, Runs, Running, Ticked}
 use Rattle.schedule.specs.History.{requests, ends, ticks, start, more}

@@ -5,7 +5,7 @@ use Rattle.layout_laws.specs.Meaning.{Meaning}
 use Rattle.schedule.specs.Work.{Work}
 use Rattle.schedule.specs.State.{State, Fresh}
 use Rattle.schedule.specs.History.{Asked, request, done, tick, Event, Step, requests, ends, ticks, Run, start, more}
-use Rattle.schedule.specs.Promise.{of_bin, about, entries, asked_of, Seen, seen, seen_of, Same}
+use Rattle.schedule.specs.Promise.{of_bin, about, asked_of, Seen, seen, seen_of, Same}
 use Rattle.schedule.proofs.Moves.{moved}
 use Rattle.schedule.proofs.Agree.{Agree, agree_refl, agree_fresh, agree_sym, agree_trans, agree_out, request_alike, end_alike, tick_alike}
 

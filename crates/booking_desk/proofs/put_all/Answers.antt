@@ -1,4 +1,4 @@
-use Rattle.std.proofs.Common.{◌≡◌, ℕ, ◌<◌, length, get_or, sym, refl, ap, ◌∙◌, subst, arith}
+use Rattle.std.proofs.Common.{◌≡◌, ℕ, ◌<◌, length, get_or, sym, refl, ◌∙◌, subst, arith}
 use Rattle.order.specs.declared.booking.Booking.{Booking}
 use Rattle.booking_desk.proofs.Arranging.{SoFar, one_more, no_more}
 use Rattle.booking_desk.proofs.put_all.Goals as goal

@@ -1,4 +1,4 @@
-use Rattle.std.proofs.Common.{◌≡◌, ◌++◌, take, drop, sym, ◌∙◌, rules}
+use Rattle.std.proofs.Common.{◌≡◌, sym, ◌∙◌, rules}
 use Rattle.std.proofs.lemmas.List.{take-append-drop}
 use Rattle.booking_desk.specs.Timetable.{left_in}
 use Rattle.booking_desk.proofs.Two.{two_put}

@@ -1,4 +1,4 @@
-use Rattle.std.proofs.Common.{◌≡◌, ℕ, ◌≤◌, length, get_or, take, drop, sym, ap, ◌∙◌, arith, rules}
+use Rattle.std.proofs.Common.{◌≤◌, length, arith, rules}
 use Rattle.file_reader.proofs.Spelling.{header_stands, rest_byte}
 use Rattle.file_reader.proofs.heading.header.Goals as goal
 

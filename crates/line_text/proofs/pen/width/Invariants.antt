@@ -1,4 +1,4 @@
-use Rattle.std.proofs.Common.{◌≡◌, ◌+◌, ◌≤◌, length}
+use Rattle.std.proofs.Common.{◌≡◌, ◌+◌, length}
 use Rattle.line_text.specs.Decimals.{digits}
 use Rattle.line_text.proofs.pen.width.Given as goal
 

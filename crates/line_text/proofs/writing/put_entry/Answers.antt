@@ -1,4 +1,4 @@
-use Rattle.std.proofs.Common.{◌≡◌, ◌+◌, [], ◌∷◌, length, sym, refl, ap, ◌∙◌, subst, arith}
+use Rattle.std.proofs.Common.{[], ◌∷◌, length, sym, ap, ◌∙◌, arith}
 use Rattle.line_text.specs.Decimals.{digits}
 use Rattle.line_text.specs.Areas.{placed}
 use Rattle.line_text.proofs.Entries.{entry_task}

@@ -1,4 +1,4 @@
-use Rattle.std.proofs.Common.{arith, rules}
+use Rattle.std.proofs.Common.{rules}
 use Rattle.planfile.proofs.Placing.{put_placed}
 use Rattle.planfile.proofs.pen.put.Goals as goal
 

@@ -1,4 +1,4 @@
-use Rattle.std.proofs.Common.{◌+◌, ◌/◌, ◌%◌, refl, arith, rules}
+use Rattle.std.proofs.Common.{◌+◌, ◌/◌, ◌%◌, refl, rules}
 use Rattle.file_reader.specs.Bytes.{two}
 use Rattle.planfile.proofs.Placing.{placed_then}
 use Rattle.planfile.proofs.pen.put_long.Goals as goal

@@ -1,8 +1,7 @@
-use Rattle.std.proofs.Common.{◌≡◌, ℕ, ◌+◌, ◌≤◌, List, [], ◌∷◌, ◌++◌, length, sym, refl, ap, ◌∙◌, subst, arith, rules}
+use Rattle.std.proofs.Common.{◌≡◌, ℕ, ◌+◌, ◌≤◌, List, [], ◌∷◌, ◌++◌, length, refl, ap, ◌∙◌, subst, arith}
 use Rattle.plan.specs.Views.{letters, task_of}
 use Rattle.planfile.specs.Areas.{placed}
 use Rattle.file_reader.specs.Bytes.{four}
-use Rattle.file_reader.specs.Grammar.{row_bytes}
 use Rattle.planfile.proofs.Placing.{placed_then}
 use Rattle.file_reader.proofs.Spelling.{row_bytes_length}
 use Rattle.planfile.proofs.pen.put_row.Goals as goal

@@ -1,12 +1,11 @@
-use Rattle.std.proofs.Common.{◌≡◌, ℕ, ◌+◌, ◌<◌, ◌≤◌, true, false, eqb, List, [], ◌∷◌, ◌++◌, length, sym, refl, ap, ◌∙◌, subst, arith, rules}
+use Rattle.std.proofs.Common.{◌≡◌, ◌+◌, ◌≤◌, ◌∷◌, ◌++◌, length, sym, refl, ap, ◌∙◌, subst, arith}
 use Rattle.std.specs.List.{flat_map}
-use Rattle.std.proofs.lemmas.List.{append-nil, length-append}
-use Rattle.std.proofs.lemmas.Bool.{eqb-true, eqb-false}
+use Rattle.std.proofs.lemmas.List.{append-nil}
+use Rattle.std.proofs.lemmas.Bool.{eqb-true}
 use Rattle.plan.specs.Views.{tasks}
 use Rattle.planfile.specs.Areas.{placed}
 use Rattle.file_reader.specs.Bytes.{two}
 use Rattle.file_reader.specs.Grammar.{header, section, row_bytes}
-use Rattle.file_reader.specs.Meaning.{calls_section, written}
 use Rattle.planfile.proofs.Placing.{placed_length}
 use Rattle.planfile.proofs.FileWritten.{section_placed, no_section, some_section, some_bytes}
 use Rattle.file_reader.proofs.RoundTrip.{written_length, calls_section_length}

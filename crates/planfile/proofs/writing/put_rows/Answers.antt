@@ -1,4 +1,4 @@
-use Rattle.std.proofs.Common.{◌≡◌, ℕ, ◌+◌, ◌<◌, ◌≤◌, List, [], ◌++◌, length, take, drop, sym, refl, ap, ◌∙◌, subst, arith, rules}
+use Rattle.std.proofs.Common.{◌≡◌, ◌+◌, length, take, sym, ap, ◌∙◌, arith}
 use Rattle.std.specs.List.{flat_map}
 use Rattle.std.proofs.lemmas.List.{take_all}
 use Rattle.plan.specs.Views.{task_of, tasks}
@@ -28,7 +28,7 @@ overflow_add-end c =
     let ts = tasks c.args.table.now in
     let i = c.loop-i.i in
     let more = rows_front_length ts i (task_of c.in-Some.row) (sym c.in-Some.ensures) in
-    omega (arith, c.loop-i.invariant.0, c.requires, more, rows_front_within ts (i + 1), c.row_len-end.ensures, c.well-formed)
+    omega (arith, c.loop-i.invariant.0, c.requires, more, rows_front_within ts (i + 1), c.row_len-end.ensures, c.well_formed)
 
 pub loop-i-preserved : goal.loop-i-preserved
 loop-i-preserved c =

@@ -1,4 +1,4 @@
-use Rattle.std.proofs.Common.{◌≡◌, ℕ, Some, sym, ap, ◌∙◌, subst, rules}
+use Rattle.std.proofs.Common.{ℕ, Some, sym, ◌∙◌, subst}
 use Rattle.file_reader.specs.CallLists.{NextCall}
 use Rattle.file_reader.specs.Readers.{CallsWhole}
 use Rattle.file_reader.proofs.Taking.{no_calls, calls_more}

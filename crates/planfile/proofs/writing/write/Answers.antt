@@ -1,10 +1,9 @@
-use Rattle.std.proofs.Common.{◌≡◌, ℕ, ◌+◌, ◌<◌, ◌≤◌, Bool, true, false, cond, eqb, List, [], ◌∷◌, ◌++◌, length, drop, sym, refl, ap, ◌∙◌, subst, arith, rules}
-use Rattle.std.specs.List.{flat_map}
+use Rattle.std.proofs.Common.{◌≡◌, ◌+◌, true, false, ◌++◌, length, drop, sym, ap, ◌∙◌, arith, rules}
 use Rattle.plan.specs.Views.{tasks}
-use Rattle.file_reader.specs.Grammar.{layout_letter, row_bytes, call_bytes}
-use Rattle.file_reader.specs.Meaning.{Accepted, Means, Only, calls_section, written}
+use Rattle.file_reader.specs.Grammar.{layout_letter}
+use Rattle.file_reader.specs.Meaning.{Accepted, written}
 use Rattle.file_reader.specs.Readers.{CallsWhole}
-use Rattle.planfile.specs.Writing.{IsNotWritten, Wrote}
+use Rattle.planfile.specs.Writing.{IsNotWritten}
 use Rattle.planfile.proofs.FileWritten.{section_length, whole_read}
 use Rattle.file_reader.proofs.GoodRows.{tasks_taken}
 use Rattle.file_reader.proofs.OneMeaning.{only}

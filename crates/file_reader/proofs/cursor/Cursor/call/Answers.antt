@@ -1,4 +1,4 @@
-use Rattle.std.proofs.Common.{◌+◌, arith, rules}
+use Rattle.std.proofs.Common.{◌+◌, rules}
 use Rattle.file_reader.proofs.cursor.Cursor.call.Goals as goal
 use Rattle.file_reader.proofs.Spelling.{letter_stands, byte_stands}
 

@@ -1,15 +1,14 @@
-use Rattle.std.proofs.Common.{◌≡◌, ℕ, ◌+◌, ◌-◌, ◌<◌, ◌≤◌, List, [], ◌∷◌, ◌++◌, length, get_or, take, drop, Some, None, Option, sym, refl, ap, ◌∙◌, subst, arith, rules}
+use Rattle.std.proofs.Common.{◌≡◌, ℕ, ◌+◌, ◌-◌, ◌≤◌, List, [], ◌∷◌, ◌++◌, length, get_or, take, drop, Some, None, sym, ap, ◌∙◌, subst, arith, rules}
 use Rattle.std.proofs.lemmas.List.{length-drop, length-take-le}
 use Rattle.plan.specs.Rows.{Task}
 use Rattle.plan.specs.Views.{tasks}
-use Rattle.file_parts.specs.declared.fault.Fault.{Fault}
 use Rattle.file_parts.specs.declared.fault.Fault.TheVariants.{Name, Cut}
 use Rattle.file_reader.specs.declared.rows.RowRead.{RowRead}
 use Rattle.file_reader.specs.Bytes.{long_at, Stands}
 use Rattle.file_reader.specs.Grammar.{row_bytes}
 use Rattle.file_reader.specs.Faults.{task_at, refused, row_told, row_fault}
 use Rattle.file_reader.specs.RowReads.{row_used}
-use Rattle.file_reader.proofs.RowCases.{part, Seen, seen, cut, misnamed, whole, part_length, part_stands}
+use Rattle.file_reader.proofs.RowCases.{part, seen, cut, misnamed, whole, part_length, part_stands}
 use Rattle.file_reader.proofs.Spelling.{row_bytes_length}
 use Rattle.file_reader.proofs.cursor.Cursor.row.Goals as goal
 

@@ -1,5 +1,4 @@
-use Rattle.std.proofs.Common.{◌≡◌, ℕ, ◌≤◌, get_or, take, sym, ap, ◌∙◌, subst, arith, rules}
-use Rattle.plan.specs.Method.{full}
+use Rattle.std.proofs.Common.{◌≡◌, get_or, take, ap, ◌∙◌, arith, rules}
 use Rattle.plan.specs.Plans.{planned}
 use Rattle.plan.proofs.Plans.{plan_lawful}
 use Rattle.layout.proofs.dedicated.making.laid.Goals as goal

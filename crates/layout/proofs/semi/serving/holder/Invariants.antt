@@ -1,4 +1,4 @@
-use Rattle.std.proofs.Common.{◌≡◌, ℕ, ◌≤◌, get_or}
+use Rattle.std.proofs.Common.{◌≡◌, ◌≤◌, get_or}
 use Rattle.layout_laws.specs.Semi.{find}
 use Rattle.layout.proofs.semi.serving.holder.Given as goal
 

@@ -1,6 +1,6 @@
-use Rattle.std.proofs.Common.{◌≡◌, ℕ, ◌+◌, ◌-◌, ◌*◌, ◌<◌, ◌≤◌, get_or, set, sym, refl, ap, ◌∙◌, subst, arith}
+use Rattle.std.proofs.Common.{◌≡◌, ◌-◌, ◌*◌, ◌≤◌, refl, ap, ◌∙◌, subst, arith}
 use Rattle.std.proofs.lemmas.Nat.{mul-le}
-use Rattle.layout_laws.specs.Shares.{share, before}
+use Rattle.layout_laws.specs.Shares.{before}
 use Rattle.layout_laws.specs.Semi.{room}
 use Rattle.layout.specs.Lawful.{reserved}
 use Rattle.layout.proofs.Starting.{Summed, summed_none, summed_more}

@@ -1,4 +1,4 @@
-use Rattle.std.proofs.Common.{◌≡◌, length, take, sym, ap, ◌∙◌, arith}
+use Rattle.std.proofs.Common.{◌≡◌, length, arith}
 use Rattle.plan.specs.Plans.{planned}
 use Rattle.plan.proofs.Plans.{bins_few}
 use Rattle.layout.proofs.Copying.{copied_more, copied_all}

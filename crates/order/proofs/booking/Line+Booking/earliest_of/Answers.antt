@@ -1,4 +1,4 @@
-use Rattle.std.proofs.Common.{ℕ, List, get_or, Some, None, Option, sym, subst}
+use Rattle.std.proofs.Common.{List, get_or, Some, None, Option, sym, subst}
 use Rattle.order.specs.declared.booking.Booking.{Booking}
 use Rattle.order.specs.Lines.{held}
 use Rattle.order.specs.Bookings.{Earliest}

@@ -1,4 +1,4 @@
-use Rattle.std.proofs.Common.{◌≡◌, ◌<◌, ◌≤◌, get_or, refl, ap, arith}
+use Rattle.std.proofs.Common.{◌<◌, ◌≤◌, get_or, refl, ap, arith}
 use Rattle.order.specs.declared.booking.Booking.{Booking}
 use Rattle.order.specs.Lines.{held}
 use Rattle.order.proofs.Dues.{due_taken, due_none}

@@ -1,4 +1,3 @@
-use Rattle.std.proofs.Common.{◌≡◌, ℕ, ◌<◌, length, get_or}
 use Rattle.plan.specs.Plans.{planned}
 use Rattle.runner.proofs.Tables.{Placed}
 use Rattle.runner.proofs.jobs.Jobs.of.Given as goal

@@ -1,4 +1,4 @@
-use Rattle.std.proofs.Common.{◌≡◌, ◌+◌, ◌≤◌, length, get_or, set, Some, None, sym, ap, ◌∙◌, arith}
+use Rattle.std.proofs.Common.{◌+◌, ◌≤◌, get_or, set, sym, ap, ◌∙◌, arith}
 use Rattle.runner.specs.declared.jobs.Jobs.{Jobs}
 use Rattle.runner.specs.Jobs.{none, worked}
 use Rattle.runner.proofs.Ticking.{ran_as, ran_unserved, ran_idle, ran_task, ran_row, ran_jobs}

@@ -1,4 +1,4 @@
-use Rattle.std.proofs.Common.{◌≡◌, ◌≤◌, length, sym, refl, ◌∙◌, arith}
+use Rattle.std.proofs.Common.{◌≡◌, ◌≤◌, length, refl, ◌∙◌, arith}
 use Rattle.plan.specs.Plans.{planned}
 use Rattle.plan.proofs.Plans.{plan_lawful}
 use Rattle.layout.specs.Makes.{Fits}

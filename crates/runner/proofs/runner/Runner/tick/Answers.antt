@@ -1,4 +1,4 @@
-use Rattle.std.proofs.Common.{◌≡◌, sym, refl, ◌∙◌, arith}
+use Rattle.std.proofs.Common.{refl, ◌∙◌, arith}
 use Rattle.runner.specs.Views.{work_of}
 use Rattle.runner.proofs.Ticking.{rests}
 use Rattle.runner.proofs.Works.{holds_of}

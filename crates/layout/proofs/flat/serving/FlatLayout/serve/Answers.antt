@@ -1,4 +1,4 @@
-use Rattle.std.proofs.Common.{◌≡◌, ◌+◌, ◌*◌, ◌<◌, ◌≤◌, get_or, sym, ap, ◌∙◌, arith}
+use Rattle.std.proofs.Common.{◌*◌, ◌≤◌, get_or, sym, arith}
 use Rattle.std.proofs.lemmas.Nat.{mul-le}
 use Rattle.layout_laws.specs.Flat.{flat_serves}
 use Rattle.layout_laws.proofs.FlatLaws.{slot_below, processor_below, none_serves}
