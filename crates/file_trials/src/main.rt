@@ -4,11 +4,11 @@
 mod making;
 mod trials;
 
-use anyhow::anyhow;
 use making::{bytes_of, full_table, two_rows};
 use plan::Table;
 use std::alloc::Global;
 use std::io::Read;
+use std::process::ExitCode;
 use trials::{Answer, reading, writing};
 
 fn word(line: &str) -> (&str, &str) {
@@ -87,10 +87,10 @@ fn run(rt: &HostRuntime) -> anyhow::Result<bool> {
     hold(rt, text.as_str())
 }
 
-fn main(rt: HostRuntime) -> anyhow::Result<()> {
+fn main(rt: HostRuntime) -> anyhow::Result<ExitCode> {
     if run(&rt)? {
-        Ok(())
+        Ok(ExitCode::SUCCESS)
     } else {
-        Err(anyhow!("not as the table tells"))
+        Ok(ExitCode::FAILURE)
     }
 }

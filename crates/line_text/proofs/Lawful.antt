@@ -1,7 +1,7 @@
 -- The digits of a number are its decimal ones.
 use Rattle.std.proofs.Common.{◌≡◌, ℕ, zero, suc, ◌+◌, ◌-◌, ◌*◌, ◌^◌, ◌<◌, List, [], ◌∷◌, map, length, get_or, decimal, sym, refl, ap, ◌∙◌, subst, arith, rules}
 use Rattle.std.specs.Int.Digits.{number_from_digits_after}
-use Rattle.std.specs.List.{AllByRecursion as All}
+use Rattle.std.specs.List.{AllByRecursion}
 use Rattle.std.proofs.lemmas.Fmt.{decimal_digit, decimal-digits_of, decimal-digits_value}
 use Rattle.std.proofs.lemmas.Int.Digits.{first_digits_of}
 use Rattle.std.proofs.ByRecursion.{All-map, All-weaker}
@@ -16,9 +16,9 @@ read_figures m (d ∷ ds) =
     let more : 10 * m + (48 + d - 48) ≡ m * 10 + d = omega arith in
     ap (λ k. read_on k (map (λ d. 48 + d) ds)) more ∙ read_figures (m * 10 + d) ds
 
-each_digit : (n : ℕ) → All Digit (digits n)
+each_digit : (n : ℕ) → AllByRecursion Digit (digits n)
 each_digit n =
-    subst (All Digit) (sym (digits_figures n)) (All-map Digit (λ d. 48 + d) (figures n) (All-weaker (λ d. d < 10) (λ d. Digit (48 + d)) (λ d h. (omega arith, omega arith)) (figures n) (under_figures n)))
+    subst (AllByRecursion Digit) (sym (digits_figures n)) (All-map Digit (λ d. 48 + d) (figures n) (All-weaker (λ d. d < 10) (λ d. Digit (48 + d)) (λ d h. (omega arith, omega arith)) (figures n) (under_figures n)))
 
 read_back : (n : ℕ) → read_on 0 (digits n) ≡ n
 read_back n = ap (read_on 0) (digits_figures n) ∙ read_figures 0 (figures n) ∙ number_figures n
@@ -36,7 +36,7 @@ unfolding digits
 decimal_digits zero h = decimal_digit 0 (omega arith)
 decimal_digits (suc n) h = decimal-digits_of (suc n) (omega arith) h
 
-numerals : IsNumeralModel (All Digit) (read_on 0)
+numerals : IsNumeralModel (AllByRecursion Digit) (read_on 0)
 numerals = numerals_by_fold _ (search rules) read_on (search rules)
 
 only : (n : ℕ) → n < 2 ^ 64 → (cs : List ℕ) → Decimal n cs → cs ≡ digits n

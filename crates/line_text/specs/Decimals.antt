@@ -1,7 +1,7 @@
 -- Numbers as decimal digits.
 use Rattle.std.specs.Prelude.{◌≡◌, ℕ, zero, suc, ◌+◌, ◌-◌, ◌*◌, ◌^◌, ◌<◌, ◌≤◌, List, [], ◌∷◌, map, length, slice_index_or}
 use Rattle.std.specs.Int.Digits.{digits_of}
-use Rattle.std.specs.List.{AllByRecursion as All}
+use Rattle.std.specs.List.{AllByRecursion}
 
 -- the highest digit first; zero has one digit
 unfoldable pub digits : ℕ → List ℕ
@@ -20,7 +20,7 @@ read_on n (c ∷ cs) = read_on (10 * n + (c - 48)) cs
 -- and the first is a 0 only where it is the only one
 pub record Decimal (n : ℕ) (cs : List ℕ) : Type 0 where
   pub some : 0 < length cs
-  pub each : All Digit cs
+  pub each : AllByRecursion Digit cs
   pub back : read_on 0 cs ≡ n
   pub lead : slice_index_or cs 0 0 ≡ 48 → length cs ≡ 1
 
