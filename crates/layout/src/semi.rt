@@ -8,8 +8,6 @@ use plan::table::ROWS;
 mod making;
 mod serving;
 
-use crate::layout::Layout;
-
 #[derive(Drop)]
 pub struct Semi {
     shares: Shares,
