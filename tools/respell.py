@@ -4,7 +4,7 @@
 usage: python3 tools/respell.py [--dry]     at the top of the repository, once, after the kit's port.py
 
 A name is respelled where it is declared in a file of specs/ or proofs/ and has a dash: First-fit becomes FirstFit, name-refusal becomes
-name_refusal. Names that the toolchain makes for goals (signatures `: goal.NAME`) keep their dashes, and so do names of the library. Comments are
+name_refusal. So are a fact that was spelled as a word, and constructors that were spelled as types. Names that the toolchain makes for goals (signatures `: goal.NAME`) keep their dashes, and so do names of the library. Comments are
 left, and so is all code but clauses and ghost lines. It says what could fall together: a new name that another declaration, a source file or an
 import from the library already has.
 """
@@ -14,7 +14,13 @@ import sys
 
 IDENT = r"[^\s(){}\[\];,.:]+"
 # where the plain respelling is a name of the code already
-INSTEAD = {"Not-written": "IsNotWritten"}
+INSTEAD = {"Not-written": "IsNotWritten", "shared-none": "SharedNone"}
+# a fact that was spelled as a word, and constructors that were spelled as types, by the module that declares them: others have such names too
+OTHER_KIND = {
+    "layout.specs.Shared": {"shared_none": "SharedNone"},
+    "file_reader.specs.Grammar": {"Rows": "table_part", "Called": "calls_part", "Note": "note_part"},
+    "file_reader.specs.Meaning": {"Accepted": "acceptance", "Refused": "refusal"},
+}
 KEYWORDS = {"where", "module", "use", "open", "unfolding", "let", "in", "mod", "ruleset", "infix", "infixl", "infixr", "elim"}
 
 
@@ -68,6 +74,30 @@ def imports():
     return taken
 
 
+def other_kinds(path, text):
+    """What OTHER_KIND says of the names that this file declares, or takes from where they are declared."""
+    own = re.sub(r"^crates/(.*)\.antt$", r"\1", path).replace("/", ".")
+    new = {}
+    for module, names in OTHER_KIND.items():
+        taken = set(names) if module == own else set()
+        for m in re.finditer(r"use Rattle\." + re.escape(module) + r"\.\{([^}]*)\}", text):
+            taken |= {n.strip() for n in m.group(1).split(",")} & set(names)
+        new |= {n: names[n] for n in taken}
+    return new
+
+
+def turn_kinds(text, new, comment):
+    if not new:
+        return text
+    word = re.compile(r"(?<![\w.'-])(" + "|".join(map(re.escape, new)) + r")(?![\w'-])")
+    out = []
+    for line in text.split("\n"):
+        at = line.find(comment)
+        code, rest = (line, "") if at < 0 else (line[:at], line[at:])
+        out.append(word.sub(lambda m: new[m.group(1)], code) + rest)
+    return "\n".join(out)
+
+
 def turn(text, new, comment):
     out = []
     for line in text.split("\n"):
@@ -107,7 +137,9 @@ def main(argv):
         for m in re.finditer(r"\b([cw](?:\.[\w-]+)*)\.(" + IDENT + ")", text):
             if m.group(2) in new:
                 print(f"look: {path}: {m.group(0)}")
-        to = turn(text, new, "--" if path.endswith(".antt") else "//")
+        comment = "--" if path.endswith(".antt") else "//"
+        to = turn(text, new, comment)
+        to = turn_kinds(to, other_kinds(path, to), comment)
         if to != text and not dry:
             open(path, "w", encoding="utf-8").write(to)
     print(f"respell: {len(new)} names")

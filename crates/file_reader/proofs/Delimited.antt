@@ -7,7 +7,7 @@ use Rattle.file_parts.specs.declared.call.Call.{Call}
 use Rattle.file_parts.specs.declared.call.Call.TheVariants.{Request, Done, Ticks}
 use Rattle.file_parts.specs.declared.settings.Settings.{Settings}
 use Rattle.file_reader.specs.Bytes.{two, four}
-use Rattle.file_reader.specs.Grammar.{Rows, Called, Note, header, section, row_bytes, call_bytes, part_bytes}
+use Rattle.file_reader.specs.Grammar.{table_part, calls_part, note_part, header, section, row_bytes, call_bytes, part_bytes}
 
 -- a spelling whose pieces end where they say
 abbrev pub Delimited : {X : Type 0} → (X → List ℕ) → Type 0
@@ -130,18 +130,18 @@ section_delimited a b xs ys r s e =
     (h.0, n.0, n.1)
 
 pub part_delimited : Delimited part_bytes
-part_delimited (Rows ts) (Rows us) r s e =
+part_delimited (table_part ts) (table_part us) r s e =
     let n = section_delimited 84 84 (flat_map row_bytes ts) (flat_map row_bytes us) r s e in
-    (ap Rows (joined_same row_bytes row_delimited row_some ts us n.1), n.2)
-part_delimited (Rows ts) (Called ds) r s e = absurd (apart 84 67 _ _ (λ z. omega arith) e)
-part_delimited (Rows ts) (Note bytes) r s e = absurd (apart 84 78 _ _ (λ z. omega arith) e)
-part_delimited (Called cs) (Rows us) r s e = absurd (apart 67 84 _ _ (λ z. omega arith) e)
-part_delimited (Called cs) (Called ds) r s e =
+    (ap table_part (joined_same row_bytes row_delimited row_some ts us n.1), n.2)
+part_delimited (table_part ts) (calls_part ds) r s e = absurd (apart 84 67 _ _ (λ z. omega arith) e)
+part_delimited (table_part ts) (note_part bytes) r s e = absurd (apart 84 78 _ _ (λ z. omega arith) e)
+part_delimited (calls_part cs) (table_part us) r s e = absurd (apart 67 84 _ _ (λ z. omega arith) e)
+part_delimited (calls_part cs) (calls_part ds) r s e =
     let n = section_delimited 67 67 (flat_map call_bytes cs) (flat_map call_bytes ds) r s e in
-    (ap Called (joined_same call_bytes call_delimited call_some cs ds n.1), n.2)
-part_delimited (Called cs) (Note bytes) r s e = absurd (apart 67 78 _ _ (λ z. omega arith) e)
-part_delimited (Note xs) (Rows us) r s e = absurd (apart 78 84 _ _ (λ z. omega arith) e)
-part_delimited (Note xs) (Called ds) r s e = absurd (apart 78 67 _ _ (λ z. omega arith) e)
-part_delimited (Note xs) (Note ys) r s e =
+    (ap calls_part (joined_same call_bytes call_delimited call_some cs ds n.1), n.2)
+part_delimited (calls_part cs) (note_part bytes) r s e = absurd (apart 67 78 _ _ (λ z. omega arith) e)
+part_delimited (note_part xs) (table_part us) r s e = absurd (apart 78 84 _ _ (λ z. omega arith) e)
+part_delimited (note_part xs) (calls_part ds) r s e = absurd (apart 78 67 _ _ (λ z. omega arith) e)
+part_delimited (note_part xs) (note_part ys) r s e =
     let n = section_delimited 78 78 xs ys r s e in
-    (ap Note n.1, n.2)
+    (ap note_part n.1, n.2)

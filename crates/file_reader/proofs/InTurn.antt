@@ -5,7 +5,7 @@ use Rattle.plan.specs.Rows.{Task}
 use Rattle.file_parts.specs.declared.call.Call.{Call}
 use Rattle.file_parts.specs.declared.due.Due.{Due}
 use Rattle.file_parts.specs.declared.due.Due.TheVariants.{Table, Calls, Notes}
-use Rattle.file_reader.specs.Grammar.{Part, Rows, Called, Note, Taken, Counts, GoodCalls, Follows, Parts, rows, calls, note}
+use Rattle.file_reader.specs.Grammar.{Part, table_part, calls_part, note_part, Taken, Counts, GoodCalls, Follows, Parts, rows, calls, note}
 use Rattle.file_reader.specs.Faults.{refused}
 
 -- rows that a table of k rows takes
@@ -50,9 +50,9 @@ good_counts _ (GoodCalls.one_more cs c g k) = counts_more cs c (good_counts cs g
 
 -- what is due after a section, and after several
 abbrev pub next : Due → Part → Due
-next due (Rows ts) = Calls
-next due (Called cs) = Notes
-next due (Note bytes) = due
+next due (table_part ts) = Calls
+next due (calls_part cs) = Notes
+next due (note_part bytes) = due
 
 abbrev pub due_after : Due → List Part → Due
 due_after due [] = due
@@ -65,22 +65,22 @@ follows_next _ _ _ (note due bytes n) = refl
 
 -- which section may follow, by what is due
 abbrev pub InTurn : Due → Part → Type 0
-InTurn Table (Rows ts) = Taken ts
-InTurn Table (Called cs) = ⊥
-InTurn Table (Note bytes) = ⊥
-InTurn Calls (Rows ts) = ⊥
-InTurn Calls (Called cs) = GoodCalls cs × (1 ≤ length cs)
-InTurn Calls (Note bytes) = Unit {0}
-InTurn Notes (Rows ts) = ⊥
-InTurn Notes (Called cs) = ⊥
-InTurn Notes (Note bytes) = Unit {0}
+InTurn Table (table_part ts) = Taken ts
+InTurn Table (calls_part cs) = ⊥
+InTurn Table (note_part bytes) = ⊥
+InTurn Calls (table_part ts) = ⊥
+InTurn Calls (calls_part cs) = GoodCalls cs × (1 ≤ length cs)
+InTurn Calls (note_part bytes) = Unit {0}
+InTurn Notes (table_part ts) = ⊥
+InTurn Notes (calls_part cs) = ⊥
+InTurn Notes (note_part bytes) = Unit {0}
 
 pub follows_turn : (due : Due) (x : Part) (due' : Due) → Follows due x due' → InTurn due x
 follows_turn _ _ _ (rows ts k) = k
 follows_turn _ _ _ (calls cs g l) = (g, l)
 follows_turn _ _ _ (note due bytes n) = noted due n
   where
-    noted : (d : Due) → (d ≡ Table → ⊥) → InTurn d (Note bytes)
+    noted : (d : Due) → (d ≡ Table → ⊥) → InTurn d (note_part bytes)
     noted Table z = absurd (z refl)
     noted Calls z = tt
     noted Notes z = tt

@@ -8,7 +8,7 @@ use Rattle.file_parts.specs.declared.due.Due.{Due}
 use Rattle.file_parts.specs.declared.due.Due.TheVariants.{Table, Calls, Notes}
 use Rattle.file_parts.specs.declared.fault.Fault.{Fault}
 use Rattle.file_reader.specs.Bytes.{two, Stands}
-use Rattle.file_reader.specs.Grammar.{Part, Rows, Called, Note, Taken, GoodCalls, section, row_bytes, call_bytes, part_bytes}
+use Rattle.file_reader.specs.Grammar.{Part, table_part, calls_part, note_part, Taken, GoodCalls, section, row_bytes, call_bytes, part_bytes}
 use Rattle.file_reader.specs.Faults.{section_fault, its_turn, row_fault, call_fault}
 use Rattle.file_reader.specs.Steps.{RowsTaken, CallsTaken, SectionFaulty, no_table, in_head, in_row, in_call}
 use Rattle.file_reader.proofs.InTurn.{InTurn}
@@ -17,9 +17,9 @@ use Rattle.file_reader.proofs.Clean.{stands_front, head_clean}
 use Rattle.file_reader.proofs.Furthest.{never_both, same_fault, joined_length, rows_furthest, calls_furthest, rows_same, calls_same}
 
 pub part_some : (x : Part) → 3 ≤ length (part_bytes x)
-part_some (Rows ts) = omega arith
-part_some (Called cs) = omega arith
-part_some (Note bytes) = omega arith
+part_some (table_part ts) = omega arith
+part_some (calls_part cs) = omega arith
+part_some (note_part bytes) = omega arith
 
 apart_due : (due : Due) → due ≡ Table → due ≡ Calls → ⊥
 apart_due due p q = let z : ◌≡◌ {A = ℕ} 0 1 = cc in omega arith
@@ -27,15 +27,15 @@ apart_due due p q = let z : ◌≡◌ {A = ℕ} 0 1 = cc in omega arith
 module _ (f : List ℕ) (p : ℕ) where
   -- the head of a whole section
   whole_head : (due : Due) (x : Part) (r : List ℕ) → drop p f ≡ part_bytes x ++ r → p + length (part_bytes x) ≤ length f → InTurn due x → section_fault f p due ≡ None
-  whole_head Table (Rows ts) r e fits k = head_clean f p Table 84 (length (flat_map row_bytes ts)) (flat_map row_bytes ts ++ r) e (omega arith) refl refl (λ z. absurd (omega arith))
-  whole_head Table (Called cs) r e fits k = absurd k
-  whole_head Table (Note bytes) r e fits k = absurd k
-  whole_head Calls (Rows ts) r e fits k = absurd k
-  whole_head Calls (Called cs) r e fits k = head_clean f p Calls 67 (length (flat_map call_bytes cs)) (flat_map call_bytes cs ++ r) e (omega arith) refl refl (λ z. calls_some cs k.1)
-  whole_head Calls (Note bytes) r e fits k = head_clean f p Calls 78 (length bytes) (bytes ++ r) e (omega arith) refl refl (λ z. absurd (omega arith))
-  whole_head Notes (Rows ts) r e fits k = absurd k
-  whole_head Notes (Called cs) r e fits k = absurd k
-  whole_head Notes (Note bytes) r e fits k = head_clean f p Notes 78 (length bytes) (bytes ++ r) e (omega arith) refl refl (λ z. absurd (omega arith))
+  whole_head Table (table_part ts) r e fits k = head_clean f p Table 84 (length (flat_map row_bytes ts)) (flat_map row_bytes ts ++ r) e (omega arith) refl refl (λ z. absurd (omega arith))
+  whole_head Table (calls_part cs) r e fits k = absurd k
+  whole_head Table (note_part bytes) r e fits k = absurd k
+  whole_head Calls (table_part ts) r e fits k = absurd k
+  whole_head Calls (calls_part cs) r e fits k = head_clean f p Calls 67 (length (flat_map call_bytes cs)) (flat_map call_bytes cs ++ r) e (omega arith) refl refl (λ z. calls_some cs k.1)
+  whole_head Calls (note_part bytes) r e fits k = head_clean f p Calls 78 (length bytes) (bytes ++ r) e (omega arith) refl refl (λ z. absurd (omega arith))
+  whole_head Notes (table_part ts) r e fits k = absurd k
+  whole_head Notes (calls_part cs) r e fits k = absurd k
+  whole_head Notes (note_part bytes) r e fits k = head_clean f p Notes 78 (length bytes) (bytes ++ r) e (omega arith) refl refl (λ z. absurd (omega arith))
 
   -- the head of a section whose rows or calls are at fault
   row_head : (due : Due) (n : ℕ) → due ≡ Table → Stands f p (84 ∷ two n) → p + 3 + n ≤ length f → section_fault f p due ≡ None
@@ -74,12 +74,12 @@ module _ (f : List ℕ) (p : ℕ) where
   pub whole_clean : (due : Due) (x : Part) (r : List ℕ) (e : Fault) → drop p f ≡ part_bytes x ++ r → p + length (part_bytes x) ≤ length f → InTurn due x → SectionFaulty f p due e → ⊥
   whole_clean due x r _ front fits turn (no_table z d) = omega (arith, part_some x)
   whole_clean due x r _ front fits turn (in_head e l a) = never_both (section_fault f p due) e a (whole_head due x r front fits turn)
-  whole_clean due (Rows us) r _ front fits turn (in_row e n q ts d s w k l a) = whole_rows n q e ts us r s k l a front (subst (λ z. InTurn z (Rows us)) d turn)
-  whole_clean due (Called ds) r _ front fits turn (in_row e n q ts d s w k l a) = subst (λ z. InTurn z (Called ds)) d turn
-  whole_clean due (Note bytes) r _ front fits turn (in_row e n q ts d s w k l a) = subst (λ z. InTurn z (Note bytes)) d turn
-  whole_clean due (Rows us) r _ front fits turn (in_call e n q cs d s w k l a) = subst (λ z. InTurn z (Rows us)) d turn
-  whole_clean due (Called ds) r _ front fits turn (in_call e n q cs d s w k l a) = whole_calls n q e cs ds r s k l a front (subst (λ z. InTurn z (Called ds)) d turn).0
-  whole_clean due (Note bytes) r _ front fits turn (in_call e n q cs d s w k l a) =
+  whole_clean due (table_part us) r _ front fits turn (in_row e n q ts d s w k l a) = whole_rows n q e ts us r s k l a front (subst (λ z. InTurn z (table_part us)) d turn)
+  whole_clean due (calls_part ds) r _ front fits turn (in_row e n q ts d s w k l a) = subst (λ z. InTurn z (calls_part ds)) d turn
+  whole_clean due (note_part bytes) r _ front fits turn (in_row e n q ts d s w k l a) = subst (λ z. InTurn z (note_part bytes)) d turn
+  whole_clean due (table_part us) r _ front fits turn (in_call e n q cs d s w k l a) = subst (λ z. InTurn z (table_part us)) d turn
+  whole_clean due (calls_part ds) r _ front fits turn (in_call e n q cs d s w k l a) = whole_calls n q e cs ds r s k l a front (subst (λ z. InTurn z (calls_part ds)) d turn).0
+  whole_clean due (note_part bytes) r _ front fits turn (in_call e n q cs d s w k l a) =
       let z : ◌≡◌ {A = ℕ} 67 78 = (head_same 67 78 (two n ++ drop 3 (drop p f)) (two (length bytes) ++ (bytes ++ r)) (sym (stands_front f p (67 ∷ two n) s) ∙ front)).0 in
       omega arith
 

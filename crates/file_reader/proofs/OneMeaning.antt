@@ -10,7 +10,7 @@ use Rattle.file_parts.specs.declared.settings.Settings.{Settings}
 use Rattle.file_reader.specs.Grammar.{Part, header, call_bytes, part_bytes, tasks_in, calls_in, noted}
 use Rattle.file_reader.specs.Faults.{header_fault}
 use Rattle.file_reader.specs.Steps.{SectionFaulty}
-use Rattle.file_reader.specs.Meaning.{Whole, Begun, Holds, FirstFault, in_header, in_section, Answer, Accepted, Refused, Means, Only}
+use Rattle.file_reader.specs.Meaning.{Whole, Begun, Holds, FirstFault, in_header, in_section, Answer, acceptance, refusal, Means, Only}
 use Rattle.file_reader.proofs.InTurn.{InTurn, Course, course_split, due_after, parts_course}
 use Rattle.file_reader.proofs.Delimited.{part_delimited, header_delimited, joined_same}
 use Rattle.file_reader.proofs.Clean.{header_clean}
@@ -82,7 +82,7 @@ one_fault f _ _ (in_section x p h ps due k a) (in_section y q g qs due' l b) =
     faults_same f p due x y a (subst (λ i. SectionFaulty f i due y) at (subst (λ d. SectionFaulty f q d y) turn b))
 
 -- what a file holds, it holds alone
-one_content : (f : List ℕ) (g h : Settings) (ts us : List Task) (cs ds : List ℕ) (m n : Bool) → Holds f g ts cs m → Holds f h us ds n → Accepted g ts cs m ≡ Accepted h us ds n
+one_content : (f : List ℕ) (g h : Settings) (ts us : List Task) (cs ds : List ℕ) (m n : Bool) → Holds f g ts cs m → Holds f h us ds n → acceptance g ts cs m ≡ acceptance h us ds n
 one_content f g h ts us cs ds m n k l =
     let b = whole_begun f g k.parts k.whole in
     let c = whole_begun f h l.parts l.whole in
@@ -91,13 +91,13 @@ one_content f g h ts us cs ds m n k l =
     let tasks : ts ≡ us = sym k.tasks ∙ ap tasks_in same ∙ l.tasks in
     let called : cs ≡ ds = sym k.called ∙ ap (λ ps. flat_map call_bytes (calls_in ps)) same ∙ l.called in
     let notes : m ≡ n = sym k.noting ∙ ap noted same ∙ l.noting in
-    ap (λ x. Accepted x ts cs m) head ∙ ap (λ x. Accepted h x cs m) tasks ∙ ap (λ x. Accepted h us x m) called ∙ ap (λ x. Accepted h us ds x) notes
+    ap (λ x. acceptance x ts cs m) head ∙ ap (λ x. acceptance h x cs m) tasks ∙ ap (λ x. acceptance h us x m) called ∙ ap (λ x. acceptance h us ds x) notes
 
 pub one_meaning : (f : List ℕ) (x y : Answer) → Means f x → Means f y → x ≡ y
-one_meaning f (Accepted g ts cs m) (Accepted h us ds n) k l = one_content f g h ts us cs ds m n k l
-one_meaning f (Accepted g ts cs m) (Refused e) k l = absurd (whole_good f g k.parts e k.whole l)
-one_meaning f (Refused e) (Accepted h us ds n) k l = absurd (whole_good f h l.parts e l.whole k)
-one_meaning f (Refused x) (Refused y) k l = ap Refused (one_fault f x y k l)
+one_meaning f (acceptance g ts cs m) (acceptance h us ds n) k l = one_content f g h ts us cs ds m n k l
+one_meaning f (acceptance g ts cs m) (refusal e) k l = absurd (whole_good f g k.parts e k.whole l)
+one_meaning f (refusal e) (acceptance h us ds n) k l = absurd (whole_good f h l.parts e l.whole k)
+one_meaning f (refusal x) (refusal y) k l = ap refusal (one_fault f x y k l)
 
 pub only : (f : List ℕ) (x : Answer) → Means f x → Only f x
 only f x k y l = one_meaning f y x l k

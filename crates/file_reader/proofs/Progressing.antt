@@ -10,7 +10,7 @@ use Rattle.file_parts.specs.declared.settings.Settings.{Settings}
 use Rattle.file_parts.specs.declared.section.Section.{Section}
 use Rattle.file_parts.specs.declared.section.Section.TheVariants as kind
 use Rattle.file_reader.specs.Bytes.{Stands}
-use Rattle.file_reader.specs.Grammar.{Part, Rows, Called, Note, Parts, Follows, layout_letter, header, section, call_bytes, part_bytes, tasks_in, calls_in, noted}
+use Rattle.file_reader.specs.Grammar.{Part, table_part, calls_part, note_part, Parts, Follows, layout_letter, header, section, call_bytes, part_bytes, tasks_in, calls_in, noted}
 use Rattle.file_parts.specs.Sections.{letter_of, body_of}
 use Rattle.file_reader.specs.Steps.{rows_after, SectionTaken, SectionFaulty}
 use Rattle.file_reader.specs.declared.reader.Reader.{Reader}
@@ -44,27 +44,27 @@ started_at f h p due ts n s l a d t e =
 -- one more part
 tasks_push : (ps : List Part) (x : Part) → tasks_in (ps ++ x ∷ []) ≡ tasks_in ps ++ tasks_in (x ∷ [])
 tasks_push [] x = refl
-tasks_push (Rows us ∷ ps) x = ap (λ l. us ++ l) (tasks_push ps x) ∙ sym (append_assoc us (tasks_in ps) (tasks_in (x ∷ [])))
-tasks_push (Called cs ∷ ps) x = tasks_push ps x
-tasks_push (Note b ∷ ps) x = tasks_push ps x
+tasks_push (table_part us ∷ ps) x = ap (λ l. us ++ l) (tasks_push ps x) ∙ sym (append_assoc us (tasks_in ps) (tasks_in (x ∷ [])))
+tasks_push (calls_part cs ∷ ps) x = tasks_push ps x
+tasks_push (note_part b ∷ ps) x = tasks_push ps x
 
 calls_push : (ps : List Part) (x : Part) → calls_in (ps ++ x ∷ []) ≡ calls_in ps ++ calls_in (x ∷ [])
 calls_push [] x = refl
-calls_push (Rows us ∷ ps) x = calls_push ps x
-calls_push (Called cs ∷ ps) x = ap (λ l. cs ++ l) (calls_push ps x) ∙ sym (append_assoc cs (calls_in ps) (calls_in (x ∷ [])))
-calls_push (Note b ∷ ps) x = calls_push ps x
+calls_push (table_part us ∷ ps) x = calls_push ps x
+calls_push (calls_part cs ∷ ps) x = ap (λ l. cs ++ l) (calls_push ps x) ∙ sym (append_assoc cs (calls_in ps) (calls_in (x ∷ [])))
+calls_push (note_part b ∷ ps) x = calls_push ps x
 
 quiet_push : (ps : List Part) (x : Part) → noted (x ∷ []) ≡ false → noted (ps ++ x ∷ []) ≡ noted ps
 quiet_push [] x e = e
-quiet_push (Rows us ∷ ps) x e = quiet_push ps x e
-quiet_push (Called cs ∷ ps) x e = quiet_push ps x e
-quiet_push (Note b ∷ ps) x e = refl
+quiet_push (table_part us ∷ ps) x e = quiet_push ps x e
+quiet_push (calls_part cs ∷ ps) x e = quiet_push ps x e
+quiet_push (note_part b ∷ ps) x e = refl
 
-note_push : (ps : List Part) (b : List ℕ) → noted (ps ++ Note b ∷ []) ≡ true
+note_push : (ps : List Part) (b : List ℕ) → noted (ps ++ note_part b ∷ []) ≡ true
 note_push [] b = refl
-note_push (Rows us ∷ ps) b = note_push ps b
-note_push (Called cs ∷ ps) b = note_push ps b
-note_push (Note c ∷ ps) b = refl
+note_push (table_part us ∷ ps) b = note_push ps b
+note_push (calls_part cs ∷ ps) b = note_push ps b
+note_push (note_part c ∷ ps) b = refl
 
 -- a table is due only where nothing was read
 pub table_first : (ps : List Part) (due : Due) → Parts ps due → due ≡ Table → ps ≡ []
@@ -76,35 +76,35 @@ table_first ps due (Parts.one_more qs x d d' r (Follows.note d₁ b n)) e = absu
 -- and there are no calls before they were read
 pub calls_last : (ps : List Part) (due : Due) → Parts ps due → (due ≡ Notes → ⊥) → calls_in ps ≡ []
 calls_last ps due Parts.none n = refl
-calls_last ps due (Parts.one_more qs x d d' r (Follows.rows ts t)) n = calls_push qs (Rows ts) ∙ append-nil (calls_in qs) ∙ calls_last qs Table r (λ e. let z : ◌≡◌ {A = ℕ} 0 1 = cc in omega (arith, z))
+calls_last ps due (Parts.one_more qs x d d' r (Follows.rows ts t)) n = calls_push qs (table_part ts) ∙ append-nil (calls_in qs) ∙ calls_last qs Table r (λ e. let z : ◌≡◌ {A = ℕ} 0 1 = cc in omega (arith, z))
 calls_last ps due (Parts.one_more qs x d d' r (Follows.calls cs g m)) n = absurd (n refl)
-calls_last ps due (Parts.one_more qs x d d' r (Follows.note d₁ b m)) n = calls_push qs (Note b) ∙ append-nil (calls_in qs) ∙ calls_last qs d₁ r n
+calls_last ps due (Parts.one_more qs x d d' r (Follows.note d₁ b m)) n = calls_push qs (note_part b) ∙ append-nil (calls_in qs) ∙ calls_last qs d₁ r n
 
 -- the bytes of the calls, and whether there are notes, after one more part
 abbrev calls_after : List ℕ → Part → List ℕ
-calls_after bytes (Rows ts) = bytes
-calls_after bytes (Called cs) = flat_map call_bytes cs
-calls_after bytes (Note b) = bytes
+calls_after bytes (table_part ts) = bytes
+calls_after bytes (calls_part cs) = flat_map call_bytes cs
+calls_after bytes (note_part b) = bytes
 
 abbrev note_after : Bool → Part → Bool
-note_after n (Rows ts) = n
-note_after n (Called cs) = n
-note_after n (Note b) = true
+note_after n (table_part ts) = n
+note_after n (calls_part cs) = n
+note_after n (note_part b) = true
 
 calls_grown : (ps : List Part) (due due' : Due) (x : Part) → Parts ps due → Follows due x due' → flat_map call_bytes (calls_in (ps ++ x ∷ [])) ≡ calls_after (flat_map call_bytes (calls_in ps)) x
-calls_grown ps due due' x r (Follows.rows ts t) = ap (flat_map call_bytes) (calls_push ps (Rows ts) ∙ append-nil (calls_in ps))
-calls_grown ps due due' x r (Follows.calls cs g n) = ap (flat_map call_bytes) (calls_push ps (Called cs) ∙ ap (λ l. l ++ (cs ++ [])) (calls_last ps Calls r (λ e. let z : ◌≡◌ {A = ℕ} 0 1 = cc in omega (arith, z))) ∙ append-nil cs)
-calls_grown ps due due' x r (Follows.note d b n) = ap (flat_map call_bytes) (calls_push ps (Note b) ∙ append-nil (calls_in ps))
+calls_grown ps due due' x r (Follows.rows ts t) = ap (flat_map call_bytes) (calls_push ps (table_part ts) ∙ append-nil (calls_in ps))
+calls_grown ps due due' x r (Follows.calls cs g n) = ap (flat_map call_bytes) (calls_push ps (calls_part cs) ∙ ap (λ l. l ++ (cs ++ [])) (calls_last ps Calls r (λ e. let z : ◌≡◌ {A = ℕ} 0 1 = cc in omega (arith, z))) ∙ append-nil cs)
+calls_grown ps due due' x r (Follows.note d b n) = ap (flat_map call_bytes) (calls_push ps (note_part b) ∙ append-nil (calls_in ps))
 
 tasks_grown : (ps : List Part) (due due' : Due) (x : Part) → Parts ps due → Follows due x due' → tasks_in (ps ++ x ∷ []) ≡ rows_after (tasks_in ps) x
-tasks_grown ps due due' x r (Follows.rows ts t) = tasks_push ps (Rows ts) ∙ ap (λ l. tasks_in l ++ (ts ++ [])) (table_first ps Table r refl) ∙ append-nil ts
-tasks_grown ps due due' x r (Follows.calls cs g n) = tasks_push ps (Called cs) ∙ append-nil (tasks_in ps)
-tasks_grown ps due due' x r (Follows.note d b n) = tasks_push ps (Note b) ∙ append-nil (tasks_in ps)
+tasks_grown ps due due' x r (Follows.rows ts t) = tasks_push ps (table_part ts) ∙ ap (λ l. tasks_in l ++ (ts ++ [])) (table_first ps Table r refl) ∙ append-nil ts
+tasks_grown ps due due' x r (Follows.calls cs g n) = tasks_push ps (calls_part cs) ∙ append-nil (tasks_in ps)
+tasks_grown ps due due' x r (Follows.note d b n) = tasks_push ps (note_part b) ∙ append-nil (tasks_in ps)
 
 notes_grown : (ps : List Part) (x : Part) → noted (ps ++ x ∷ []) ≡ note_after (noted ps) x
-notes_grown ps (Rows ts) = quiet_push ps (Rows ts) refl
-notes_grown ps (Called cs) = quiet_push ps (Called cs) refl
-notes_grown ps (Note b) = note_push ps b
+notes_grown ps (table_part ts) = quiet_push ps (table_part ts) refl
+notes_grown ps (calls_part cs) = quiet_push ps (calls_part cs) refl
+notes_grown ps (note_part b) = note_push ps b
 
 -- a section that comes out says the same
 abbrev first : List ℕ → ℕ
@@ -120,26 +120,26 @@ calls_now bytes (kind.Calls b at) = b.now
 calls_now bytes (kind.Note b at) = bytes
 
 calls_told : (s : Section) (x : Part) (bytes : List ℕ) → section (letter_of s) (body_of s) ≡ part_bytes x → calls_now bytes s ≡ calls_after bytes x
-calls_told (kind.Table b at) (Rows ts) bytes e = refl
-calls_told (kind.Table b at) (Called cs) bytes e = absurd (let z : ◌≡◌ {A = ℕ} 84 67 = ap first e in omega (arith, z))
-calls_told (kind.Table b at) (Note c) bytes e = refl
-calls_told (kind.Calls b at) (Rows ts) bytes e = absurd (let z : ◌≡◌ {A = ℕ} 67 84 = ap first e in omega (arith, z))
-calls_told (kind.Calls b at) (Called cs) bytes e = body 67 67 b.now (flat_map call_bytes cs) e
-calls_told (kind.Calls b at) (Note c) bytes e = absurd (let z : ◌≡◌ {A = ℕ} 67 78 = ap first e in omega (arith, z))
-calls_told (kind.Note b at) (Rows ts) bytes e = refl
-calls_told (kind.Note b at) (Called cs) bytes e = absurd (let z : ◌≡◌ {A = ℕ} 78 67 = ap first e in omega (arith, z))
-calls_told (kind.Note b at) (Note c) bytes e = refl
+calls_told (kind.Table b at) (table_part ts) bytes e = refl
+calls_told (kind.Table b at) (calls_part cs) bytes e = absurd (let z : ◌≡◌ {A = ℕ} 84 67 = ap first e in omega (arith, z))
+calls_told (kind.Table b at) (note_part c) bytes e = refl
+calls_told (kind.Calls b at) (table_part ts) bytes e = absurd (let z : ◌≡◌ {A = ℕ} 67 84 = ap first e in omega (arith, z))
+calls_told (kind.Calls b at) (calls_part cs) bytes e = body 67 67 b.now (flat_map call_bytes cs) e
+calls_told (kind.Calls b at) (note_part c) bytes e = absurd (let z : ◌≡◌ {A = ℕ} 67 78 = ap first e in omega (arith, z))
+calls_told (kind.Note b at) (table_part ts) bytes e = refl
+calls_told (kind.Note b at) (calls_part cs) bytes e = absurd (let z : ◌≡◌ {A = ℕ} 78 67 = ap first e in omega (arith, z))
+calls_told (kind.Note b at) (note_part c) bytes e = refl
 
 notes_told : (s : Section) (x : Part) (n : Bool) → section (letter_of s) (body_of s) ≡ part_bytes x → noted_after n s ≡ note_after n x
-notes_told (kind.Table b at) (Rows ts) n e = refl
-notes_told (kind.Table b at) (Called cs) n e = refl
-notes_told (kind.Table b at) (Note c) n e = absurd (let z : ◌≡◌ {A = ℕ} 84 78 = ap first e in omega (arith, z))
-notes_told (kind.Calls b at) (Rows ts) n e = refl
-notes_told (kind.Calls b at) (Called cs) n e = refl
-notes_told (kind.Calls b at) (Note c) n e = absurd (let z : ◌≡◌ {A = ℕ} 67 78 = ap first e in omega (arith, z))
-notes_told (kind.Note b at) (Rows ts) n e = absurd (let z : ◌≡◌ {A = ℕ} 78 84 = ap first e in omega (arith, z))
-notes_told (kind.Note b at) (Called cs) n e = absurd (let z : ◌≡◌ {A = ℕ} 78 67 = ap first e in omega (arith, z))
-notes_told (kind.Note b at) (Note c) n e = refl
+notes_told (kind.Table b at) (table_part ts) n e = refl
+notes_told (kind.Table b at) (calls_part cs) n e = refl
+notes_told (kind.Table b at) (note_part c) n e = absurd (let z : ◌≡◌ {A = ℕ} 84 78 = ap first e in omega (arith, z))
+notes_told (kind.Calls b at) (table_part ts) n e = refl
+notes_told (kind.Calls b at) (calls_part cs) n e = refl
+notes_told (kind.Calls b at) (note_part c) n e = absurd (let z : ◌≡◌ {A = ℕ} 67 78 = ap first e in omega (arith, z))
+notes_told (kind.Note b at) (table_part ts) n e = absurd (let z : ◌≡◌ {A = ℕ} 78 84 = ap first e in omega (arith, z))
+notes_told (kind.Note b at) (calls_part cs) n e = absurd (let z : ◌≡◌ {A = ℕ} 78 67 = ap first e in omega (arith, z))
+notes_told (kind.Note b at) (note_part c) n e = refl
 
 -- behind one more section
 pub progressed : (f : List ℕ) (h : Settings) (p q : ℕ) (due due' : Due) (ts us : List Task) (calls : List ℕ) (n : Bool) (s : Section) → Progress f h p due ts calls n → SectionTaken f p due ts q due' us s → Progress f h q due' us (calls_now calls s) (noted_after n s)

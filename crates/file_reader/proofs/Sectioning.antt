@@ -10,7 +10,7 @@ use Rattle.file_parts.specs.declared.fault.Fault.{Fault}
 use Rattle.file_parts.specs.declared.fault.Fault.TheVariants.{ShortFile}
 use Rattle.file_parts.specs.declared.section.Section.{Section}
 use Rattle.file_reader.specs.Bytes.{two, Stands}
-use Rattle.file_reader.specs.Grammar.{Part, Rows, Called, Note, section, row_bytes, call_bytes, part_bytes, Follows}
+use Rattle.file_reader.specs.Grammar.{Part, table_part, calls_part, note_part, section, row_bytes, call_bytes, part_bytes, Follows}
 use Rattle.file_reader.specs.Faults.{its_turn, section_fault}
 use Rattle.file_parts.specs.Sections.{letter_of, body_of}
 use Rattle.file_reader.specs.Steps.{RowsTaken, rows_after, SectionTaken, SectionFaulty}
@@ -80,17 +80,17 @@ module _ (f : List ℕ) (p : ℕ) (due : Due) (s : Section) (h : HeadRead f p du
   pub rows_taken : (ts us : List Task) (q : ℕ) → letter_of s ≡ 84 → q ≡ p + 3 + length (body_of s) → RowsTaken f (p + 3) (p + 3 + length (body_of s)) us → SectionTaken f p due ts q Calls us s
   rows_taken ts us q t l r =
       let b = body_is (flat_map row_bytes us) r.stand r.after in
-      taken (Rows us) Calls ts us (ap (λ n. section n (body_of s)) t ∙ ap (section 84) b) (subst (λ d. Follows d (Rows us) Calls) (sym (table_due due (ap (its_turn due) (sym t) ∙ h.turn))) (Follows.rows us r.taken)) refl q l
+      taken (table_part us) Calls ts us (ap (λ n. section n (body_of s)) t ∙ ap (section 84) b) (subst (λ d. Follows d (table_part us) Calls) (sym (table_due due (ap (its_turn due) (sym t) ∙ h.turn))) (Follows.rows us r.taken)) refl q l
 
   pub calls_taken : (ts : List Task) (q : ℕ) → letter_of s ≡ 67 → q ≡ p + 3 + length (body_of s) → CallsWhole f (p + 3) (p + 3 + length (body_of s)) → SectionTaken f p due ts q Notes ts s
   calls_taken ts q t l w =
       let cs = w.calls in
       let b = body_is (flat_map call_bytes cs) w.taken.stand w.taken.after in
-      taken (Called cs) Notes ts ts (ap (λ k. section k (body_of s)) t ∙ ap (section 67) b) (subst (λ d. Follows d (Called cs) Notes) (sym (calls_due due (ap (its_turn due) (sym t) ∙ h.turn))) (Follows.calls cs w.taken.good (some cs (subst (λ k. 1 ≤ length k) b (h.some t))))) refl q l
+      taken (calls_part cs) Notes ts ts (ap (λ k. section k (body_of s)) t ∙ ap (section 67) b) (subst (λ d. Follows d (calls_part cs) Notes) (sym (calls_due due (ap (its_turn due) (sym t) ∙ h.turn))) (Follows.calls cs w.taken.good (some cs (subst (λ k. 1 ≤ length k) b (h.some t))))) refl q l
     where
       some : (cs : List Call) → 1 ≤ length (flat_map call_bytes cs) → 1 ≤ length cs
       some [] h = absurd (omega (arith, h))
       some (c ∷ cs) h = omega arith
 
   pub note_taken : (ts : List Task) (q : ℕ) → letter_of s ≡ 78 → q ≡ p + 3 + length (body_of s) → SectionTaken f p due ts q due ts s
-  note_taken ts q t l = taken (Note (body_of s)) due ts ts (ap (λ n. section n (body_of s)) t) (Follows.note due (body_of s) (note_due due (ap (its_turn due) (sym t) ∙ h.turn))) refl q l
+  note_taken ts q t l = taken (note_part (body_of s)) due ts ts (ap (λ n. section n (body_of s)) t) (Follows.note due (body_of s) (note_due due (ap (its_turn due) (sym t) ∙ h.turn))) refl q l

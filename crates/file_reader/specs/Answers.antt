@@ -3,12 +3,12 @@ use Rattle.std.specs.Prelude.{◌≡◌, ℕ, false, List, [], Ok, Err, Result}
 use Rattle.plan.specs.Rows.{Task}
 use Rattle.file_parts.specs.declared.fault.Fault.{Fault}
 use Rattle.file_reader.specs.declared.reading.Contents.{Contents}
-use Rattle.file_reader.specs.Meaning.{Answer, Accepted, Refused, written}
+use Rattle.file_reader.specs.Meaning.{Answer, acceptance, refusal, written}
 
 -- an answer, with the tasks of the table that was filled
 abbrev pub answer : List Task → Result Contents Fault → Answer
-answer ts (Ok c) = Accepted c.settings ts c.calls.now c.noted
-answer ts (Err e) = Refused e
+answer ts (Ok c) = acceptance c.settings ts c.calls.now c.noted
+answer ts (Err e) = refusal e
 
 -- a refused file leaves no rows
 abbrev pub RowsLeft : List Task → Result Contents Fault → Type 0

@@ -38,15 +38,15 @@ section letter body = letter ∷ two (length body) ++ body
 
 -- what a section holds, by its kind
 pub data Part : Type 0 where
-  Rows : List Task → Part
-  Called : List Call → Part
-  Note : List ℕ → Part
+  table_part : List Task → Part
+  calls_part : List Call → Part
+  note_part : List ℕ → Part
 
 -- T, C and N
 abbrev pub part_bytes : Part → List ℕ
-part_bytes (Rows ts) = section 84 (flat_map row_bytes ts)
-part_bytes (Called cs) = section 67 (flat_map call_bytes cs)
-part_bytes (Note bytes) = section 78 bytes
+part_bytes (table_part ts) = section 84 (flat_map row_bytes ts)
+part_bytes (calls_part cs) = section 67 (flat_map call_bytes cs)
+part_bytes (note_part bytes) = section 78 bytes
 
 -- tasks that a table takes one after the other
 pub data Taken : List Task → Type 0 where
@@ -65,9 +65,9 @@ pub data GoodCalls : List Call → Type 0 where
 
 -- which section may follow: first T, once; then notes, and once C, with a call in it
 pub data Follows : Due → Part → Due → Type 0 where
-  rows : (ts : List Task) → Taken ts → Follows Table (Rows ts) Calls
-  calls : (cs : List Call) → GoodCalls cs → 1 ≤ length cs → Follows Calls (Called cs) Notes
-  note : (due : Due) (bytes : List ℕ) → (due ≢ Table) → Follows due (Note bytes) due
+  rows : (ts : List Task) → Taken ts → Follows Table (table_part ts) Calls
+  calls : (cs : List Call) → GoodCalls cs → 1 ≤ length cs → Follows Calls (calls_part cs) Notes
+  note : (due : Due) (bytes : List ℕ) → (due ≢ Table) → Follows due (note_part bytes) due
 
 -- sections in order, and what is due after them
 pub data Parts : List Part → Due → Type 0 where
@@ -77,18 +77,18 @@ pub data Parts : List Part → Due → Type 0 where
 -- what sections hold in all
 abbrev pub tasks_in : List Part → List Task
 tasks_in [] = []
-tasks_in (Rows ts ∷ ps) = ts ++ tasks_in ps
-tasks_in (Called cs ∷ ps) = tasks_in ps
-tasks_in (Note bytes ∷ ps) = tasks_in ps
+tasks_in (table_part ts ∷ ps) = ts ++ tasks_in ps
+tasks_in (calls_part cs ∷ ps) = tasks_in ps
+tasks_in (note_part bytes ∷ ps) = tasks_in ps
 
 abbrev pub calls_in : List Part → List Call
 calls_in [] = []
-calls_in (Rows ts ∷ ps) = calls_in ps
-calls_in (Called cs ∷ ps) = cs ++ calls_in ps
-calls_in (Note bytes ∷ ps) = calls_in ps
+calls_in (table_part ts ∷ ps) = calls_in ps
+calls_in (calls_part cs ∷ ps) = cs ++ calls_in ps
+calls_in (note_part bytes ∷ ps) = calls_in ps
 
 abbrev pub noted : List Part → Bool
 noted [] = false
-noted (Rows ts ∷ ps) = noted ps
-noted (Called cs ∷ ps) = noted ps
-noted (Note bytes ∷ ps) = true
+noted (table_part ts ∷ ps) = noted ps
+noted (calls_part cs ∷ ps) = noted ps
+noted (note_part bytes ∷ ps) = true

@@ -39,12 +39,12 @@ pub data FirstFault (f : List ℕ) : Fault → Type 0 where
   in_section : (e : Fault) (p : ℕ) (h : Settings) (ps : List Part) (due : Due) → Begun f p h ps due → SectionFaulty f p due e → FirstFault f e
 
 pub data Answer : Type 0 where
-  Accepted : Settings → List Task → List ℕ → Bool → Answer
-  Refused : Fault → Answer
+  acceptance : Settings → List Task → List ℕ → Bool → Answer
+  refusal : Fault → Answer
 
 abbrev pub Means : List ℕ → Answer → Type 0
-Means f (Accepted h ts calls notes) = Holds f h ts calls notes
-Means f (Refused e) = FirstFault f e
+Means f (acceptance h ts calls notes) = Holds f h ts calls notes
+Means f (refusal e) = FirstFault f e
 
 -- no file has two meanings
 abbrev pub Only : List ℕ → Answer → Type 0

@@ -9,7 +9,7 @@ use Rattle.file_parts.specs.declared.fault.Fault.{Fault}
 use Rattle.file_parts.specs.declared.fault.Fault.TheVariants.{ShortFile}
 use Rattle.file_parts.specs.declared.section.Section.{Section}
 use Rattle.file_reader.specs.Bytes.{two, Stands}
-use Rattle.file_reader.specs.Grammar.{Part, Rows, Called, Note, section, row_bytes, call_bytes, part_bytes, Taken, GoodCalls, Follows}
+use Rattle.file_reader.specs.Grammar.{Part, table_part, calls_part, note_part, section, row_bytes, call_bytes, part_bytes, Taken, GoodCalls, Follows}
 use Rattle.file_parts.specs.Sections.{letter_of, body_of, letter_place}
 use Rattle.file_reader.specs.Faults.{refused, row_fault, call_fault, section_fault}
 
@@ -35,9 +35,9 @@ pub record CallsTaken (f : List ℕ) (p q : ℕ) (cs : List Call) : Type 0 where
 
 -- what a table holds once a section is read into it
 abbrev pub rows_after : List Task → Part → List Task
-rows_after ts (Rows us) = us
-rows_after ts (Called cs) = ts
-rows_after ts (Note bytes) = ts
+rows_after ts (table_part us) = us
+rows_after ts (calls_part cs) = ts
+rows_after ts (note_part bytes) = ts
 
 -- a whole section from p to q, which was due
 pub record SectionTaken (f : List ℕ) (p : ℕ) (due : Due) (ts : List Task) (q : ℕ) (due' : Due) (us : List Task) (s : Section) : Type 0 where

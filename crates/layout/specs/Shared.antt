@@ -12,5 +12,5 @@ pub record Shared (p : Planned) (s : Shares) : Type 0 where
   pub reserves : take s.bins s.reserves ≡ p.reserves
 
 -- the shares of nobody
-abbrev pub shared_none : Shares → Type 0
-shared_none s = (s.processors ≡ 1) × (s.bins ≡ 0) × (s.shortest ≡ 0) × (s.slot ≡ 1)
+abbrev pub SharedNone : Shares → Type 0
+SharedNone s = (s.processors ≡ 1) × (s.bins ≡ 0) × (s.shortest ≡ 0) × (s.slot ≡ 1)

@@ -9,7 +9,7 @@ use Rattle.planfile.specs.Areas.{placed}
 use Rattle.file_reader.specs.Bytes.{two}
 use Rattle.file_reader.specs.Grammar.{Taken, layout_letter, section, call_bytes}
 use Rattle.file_reader.specs.Readers.{CallsWhole}
-use Rattle.file_reader.specs.Meaning.{Accepted, Means, calls_section, written}
+use Rattle.file_reader.specs.Meaning.{acceptance, Means, calls_section, written}
 use Rattle.file_reader.proofs.RoundTrip.{reads_back}
 use Rattle.planfile.proofs.Placing.{placed_then}
 
@@ -41,8 +41,8 @@ section_length (c ∷ cs) =
     long ∙ sym (cond-false (eqb (length (c ∷ cs)) 0) 0 (3 + length (c ∷ cs)) some)
 
 -- whole calls are written so that they read back
-pub whole_read : (h : Settings) (ts : List Task) (calls : List ℕ) → layout_letter h.letter ≡ true → Taken ts → CallsWhole calls 0 (length calls) → Means (written h ts calls) (Accepted h ts calls false)
+pub whole_read : (h : Settings) (ts : List Task) (calls : List ℕ) → layout_letter h.letter ≡ true → Taken ts → CallsWhole calls 0 (length calls) → Means (written h ts calls) (acceptance h ts calls false)
 whole_read h ts calls l t w =
     let cs = w.calls in
     let spelled : flat_map call_bytes cs ≡ calls = sym w.taken.stand ∙ take_all (length (flat_map call_bytes cs)) calls (omega (arith, w.taken.after)) in
-    subst (λ b. Means (written h ts b) (Accepted h ts b false)) spelled (reads_back h ts cs l t w.taken.good)
+    subst (λ b. Means (written h ts b) (acceptance h ts b false)) spelled (reads_back h ts cs l t w.taken.good)

@@ -7,7 +7,7 @@ use Rattle.file_parts.specs.declared.not_written.NotWritten.TheVariants.{Letter,
 use Rattle.file_parts.specs.declared.settings.Settings.{Settings}
 use Rattle.file_reader.specs.Grammar.{layout_letter}
 use Rattle.file_reader.specs.Readers.{CallsWhole, CallsBroken}
-use Rattle.file_reader.specs.Meaning.{Accepted, Means, Only, written}
+use Rattle.file_reader.specs.Meaning.{acceptance, Means, Only, written}
 
 -- letter, calls, their length, and then the area; what is tested later counts only where all before it is good
 pub data IsNotWritten (h : Settings) (ts : List Task) (calls area : List ℕ) : NotWritten → Type 0 where
@@ -31,9 +31,9 @@ WrittenOrNot h ts calls area area' (Err e) = IsNotWritten h ts calls area e × (
 
 -- what is written reads back the same, and in no other way
 abbrev pub ReadsBack : Settings → List Task → List ℕ → Result ℕ NotWritten → Type 0
-ReadsBack h ts calls (Ok n) = Means (written h ts calls) (Accepted h ts calls false) × Only (written h ts calls) (Accepted h ts calls false)
+ReadsBack h ts calls (Ok n) = Means (written h ts calls) (acceptance h ts calls false) × Only (written h ts calls) (acceptance h ts calls false)
 ReadsBack h ts calls (Err e) = Unit {0}
 
 -- a file without notes that holds these settings, tasks and calls is, byte for byte, the file that is written
 abbrev pub SameBytes : Settings → List Task → List ℕ → Type 0
-SameBytes h ts calls = (f : List ℕ) → Means f (Accepted h ts calls false) → f ≡ written h ts calls
+SameBytes h ts calls = (f : List ℕ) → Means f (acceptance h ts calls false) → f ≡ written h ts calls

@@ -3,7 +3,7 @@ ghost use Rattle.plan.specs.Plans.{planned};
 ghost use Rattle.layout_laws.specs.Offset.{offset};
 ghost use Rattle.layout_laws.specs.Semi.{free, shared};
 ghost use Rattle.layout.specs.Makes.{Roomy};
-ghost use Rattle.layout.specs.Shared.{Shared, shared_none};
+ghost use Rattle.layout.specs.Shared.{Shared, SharedNone};
 
 use super::Shares;
 use plan::table::ROWS;
@@ -34,7 +34,7 @@ fn reserves_of(plan: &Plan) -> [u32; ROWS]
 impl Shares {
     // Those of nobody.
     pub(crate) fn none() -> Shares
-        ensures { shared_none result }
+        ensures { SharedNone result }
     {
         Shares {
             processors: 1,

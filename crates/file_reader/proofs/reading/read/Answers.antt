@@ -2,7 +2,7 @@ use Rattle.std.proofs.Common.{Some, None, sym, ◌∙◌, subst}
 use Rattle.std.proofs.lemmas.Result.{err_from_is_err_and}
 use Rattle.plan.specs.Views.{tasks}
 use Rattle.file_reader.specs.Steps.{SectionFaulty}
-use Rattle.file_reader.specs.Meaning.{Holds, FirstFault, Accepted, Refused}
+use Rattle.file_reader.specs.Meaning.{Holds, FirstFault, acceptance, refusal}
 use Rattle.file_reader.specs.Readers.{Came}
 use Rattle.file_reader.proofs.Progressing.{Progress, calls_now, started_at, faulted, reader_progressed, calls_kept, reader_finished}
 use Rattle.file_reader.proofs.OneMeaning.{one_meaning}
@@ -13,7 +13,7 @@ pub returns-in_err-settings : goal.returns-in_err-settings
 returns-in_err-settings c =
     let r = err_from_is_err_and c.from_residual.result c.from_residual.ensures.1 in
     let means = FirstFault.in_header c.in_err-settings.field-0.0 c.in_err-settings.ensures in
-    rw (r.1, r.2) (record { means = means; only = λ y m. one_meaning c.args.file.now y (Refused c.in_err-settings.field-0.0) m means; returns = tt; rows = c.clear.ensures })
+    rw (r.1, r.2) (record { means = means; only = λ y m. one_meaning c.args.file.now y (refusal c.in_err-settings.field-0.0) m means; returns = tt; rows = c.clear.ensures })
 
 pub loop-section-init : goal.loop-section-init
 loop-section-init c =
@@ -29,7 +29,7 @@ returns-in_err-section c =
     let i = c.loop-section.invariant in
     let d = c.loop-section.reader in
     let means = faulted c.args.file.now c.in_ok-settings.settings d.cursor.pos d.due (tasks c.loop-section.table) c.loop-section.calls.now d.noted c.in_err-section.field-0.0 i.1 (subst (λ k. SectionFaulty k d.cursor.pos d.due c.in_err-section.field-0.0) i.0 stopped.faulty) in
-    rw (r.1, r.2) (record { means = means; only = λ y m. one_meaning c.args.file.now y (Refused c.in_err-section.field-0.0) m means; returns = tt; rows = stopped.cleared })
+    rw (r.1, r.2) (record { means = means; only = λ y m. one_meaning c.args.file.now y (refusal c.in_err-section.field-0.0) m means; returns = tt; rows = stopped.cleared })
 
 pub loop-section-preserved-in-Calls : goal.loop-section-preserved-in-Calls
 loop-section-preserved-in-Calls c =
@@ -63,7 +63,7 @@ returns c =
     let means : Holds f h us calls c.noted.result = subst (Holds f h us calls) (sym c.noted.ensures) held in
     record {
       means = means;
-      only = λ y m. one_meaning f y (Accepted h us calls c.noted.result) m means;
+      only = λ y m. one_meaning f y (acceptance h us calls c.noted.result) m means;
       returns = λ quiet. written_back f h us calls (subst (Holds f h us calls) quiet means);
       rows = tt;
     }

@@ -1,7 +1,7 @@
 use Rattle.std.proofs.Common.{◌≡◌, ◌+◌, true, false, ◌++◌, length, drop, sym, ap, ◌∙◌, arith, rules}
 use Rattle.plan.specs.Views.{tasks}
 use Rattle.file_reader.specs.Grammar.{layout_letter}
-use Rattle.file_reader.specs.Meaning.{Accepted, written}
+use Rattle.file_reader.specs.Meaning.{acceptance, written}
 use Rattle.file_reader.specs.Readers.{CallsWhole}
 use Rattle.planfile.specs.Writing.{IsNotWritten}
 use Rattle.planfile.proofs.FileWritten.{section_length, whole_read}
@@ -70,6 +70,6 @@ returns c =
         room = c.if-area-len.false;
         bytes = c.put_file.ensures ∙ ap (λ n. written h ts calls ++ drop n area) (let n : 0 + length (written h ts calls) ≡ c.file_len-len.result = omega (arith, long) in n);
       };
-      back = (means, only (written h ts calls) (Accepted h ts calls false) means);
+      back = (means, only (written h ts calls) (acceptance h ts calls false) means);
       again = λ f m. written_back f h ts calls m;
     }
