@@ -1,7 +1,0 @@
-use Rattle.std.proofs.Common.{◌≡◌, take}
-use Rattle.plan.specs.Method.{shortest_of}
-use Rattle.plan.specs.Views.{tasks}
-use Rattle.plan.proofs.table.Table.shortest.Given as goal
-
-abbrev pub invariant-loop-task : goal.invariant-loop-task
-invariant-loop-task l = l.least ≡ shortest_of (take l.task (tasks l.self))
