@@ -48,11 +48,11 @@ impl Name {
         if bytes.is_empty() || bytes.len() > NAME_BYTES {
             return Err(RowRefusal::NameLength);
         }
-        if let Some(at) = bytes.iter().position(|byte| !is_printable(*byte)) {
-            return Err(RowRefusal::NameByte { at: at as u8 });
-        }
         let mut text = ArrayString::new();
-        for byte in bytes {
+        for (at, byte) in bytes.iter().enumerate() {
+            if !is_printable(*byte) {
+                return Err(RowRefusal::NameByte { at: at as u8 });
+            }
             text.push(char::from(*byte));
         }
         Ok(Name { text })
@@ -61,7 +61,7 @@ impl Name {
     pub fn as_bytes(&self) -> &[u8]
         ensures { result.now ≡ self.now.text.bytes }
     {
-        self.text.as_str().as_bytes()
+        self.as_str().as_bytes()
     }
 
     pub fn as_str(&self) -> &str

@@ -19,10 +19,9 @@ pub(crate) struct Packing {
 
 // Whether a bin of this load can take the charge.
 fn has_room(load: u32, charge: u32) -> bool
-    requires { load ≤ full }
     ensures { result ≡ nat_le (load + charge) full }
 {
-    charge <= FULL - load
+    load.saturating_add(charge) <= FULL
 }
 
 impl Packing {
@@ -58,10 +57,10 @@ impl Packing {
         ensures loaded { self.new.loads.items ≡ put charge self.old.loads.items }
     {
         let bin = self.place(charge);
+        self.bin_of.push(bin as u8);
         match self.loads.get_mut(bin) {
             Some(load) => *load += charge,
             None => self.loads.push(charge),
         }
-        self.bin_of.push(bin as u8);
     }
 }

@@ -1,6 +1,6 @@
 // What closing works out from the rows.
 ghost use Rattle.std.specs.Prelude.{◌≡◌};
-ghost use Rattle.plan.specs.Method.{shortest_of};
+ghost use Rattle.plan.specs.Method.{shorter, shortest_of};
 ghost use Rattle.plan.specs.Closing.{charges_of};
 ghost use Rattle.plan.specs.Packs.{Packs};
 ghost use Rattle.plan.specs.Views.{tasks};
@@ -8,12 +8,27 @@ ghost use Rattle.plan.specs.Views.{tasks};
 use super::Table;
 use crate::packing::Packing;
 
+// The shorter of a period and the least so far; 0 says that there was none.
+fn shorter(least: u32, period: u32) -> u32
+    ensures { result ≡ shorter least period }
+{
+    if least == 0 || period < least {
+        period
+    } else {
+        least
+    }
+}
+
 impl Table {
     // The shortest period, or 0 where there are no rows.
     pub(crate) fn shortest(&self) -> u32
         ensures { result ≡ shortest_of (tasks self.now) }
     {
-        self.rows.iter().map(|row| row.period()).min().unwrap_or(0)
+        let mut least = 0;
+        for row in self.rows.iter() {
+            least = shorter(least, row.period());
+        }
+        least
     }
 
     // The bins, by First-Fit in the order of the rows.
