@@ -1,5 +1,4 @@
 // The text table: a task a line, `budget period name`.
-use crate::words::row_words;
 use plan::{RowRefusal, Table};
 use std::fmt;
 
@@ -9,6 +8,12 @@ pub enum Fault {
     // It does not begin with two numbers.
     Form,
     Row(RowRefusal),
+}
+
+impl From<RowRefusal> for Fault {
+    fn from(refusal: RowRefusal) -> Fault {
+        Fault::Row(refusal)
+    }
 }
 
 // The first line that is no row, counted from 1.
@@ -25,8 +30,7 @@ impl fmt::Display for BadLine {
             Fault::Form => write!(f, "line {line}: not of the form: budget period name"),
             Fault::Row(refusal) => {
                 let number = refusal.number();
-                let words = row_words(refusal);
-                write!(f, "line {line}: refused {number}: {words}")
+                write!(f, "line {line}: refused {number}: {refusal}")
             }
         }
     }
@@ -34,10 +38,8 @@ impl fmt::Display for BadLine {
 
 // The next word of a line, and what follows it from the next word on.
 fn word(line: &str) -> (&str, &str) {
-    match line.split_once(' ') {
-        Some((word, rest)) => (word, rest.trim_start()),
-        None => (line, ""),
-    }
+    let (word, rest) = line.split_once(' ').unwrap_or((line, ""));
+    (word, rest.trim_start())
 }
 
 // Adds the task of one line; blank lines and comments add none.
@@ -48,28 +50,21 @@ fn add_line(table: &mut Table, line: &str) -> Result<(), Fault> {
     }
     let (budget, rest) = word(line);
     let (period, name) = word(rest);
-    match (budget.parse(), period.parse()) {
-        (Ok(budget), Ok(period)) => match table.add(budget, period, name.as_bytes()) {
-            Ok(()) => Ok(()),
-            Err(refusal) => Err(Fault::Row(refusal)),
-        },
-        _ => Err(Fault::Form),
-    }
+    let (Ok(budget), Ok(period)) = (budget.parse(), period.parse()) else {
+        return Err(Fault::Form);
+    };
+    table.add(budget, period, name.as_bytes())?;
+    Ok(())
 }
 
 // The table that a text holds.
 pub(crate) fn table_of(text: &str) -> Result<Table, BadLine> {
     let mut table = Table::new();
-    let mut number = 0usize;
-    for line in text.lines() {
-        number = number.saturating_add(1);
-        match add_line(&mut table, line) {
-            Ok(()) => {}
-            Err(fault) => return Err(BadLine {
-                line: number,
-                fault,
-            }),
-        }
+    for (at, line) in text.lines().enumerate() {
+        add_line(&mut table, line).map_err(|fault| BadLine {
+            line: at.saturating_add(1),
+            fault,
+        })?;
     }
     Ok(table)
 }

@@ -5,10 +5,9 @@ mod input;
 mod report;
 #[cfg(test)]
 mod tests;
-mod words;
 
 use anyhow::anyhow;
-use input::{BadLine, table_of};
+use input::table_of;
 use report::Report;
 use std::env;
 use std::io::Read;
@@ -28,9 +27,9 @@ fn settings(rt: &HostRuntime) -> anyhow::Result<(u8, u8)> {
     }
 }
 
-// Prints the report, or the line that is at fault; whether it was the report.
-fn run(rt: &HostRuntime) -> anyhow::Result<bool> {
-    let (processors, delta) = settings(rt)?;
+// Prints the report, or the line that is at fault: the line says all, and the status says that there is no report.
+fn main(rt: HostRuntime) -> anyhow::Result<ExitCode> {
+    let (processors, delta) = settings(&rt)?;
     let mut bytes = Vec::new(rt.alloc());
     rt.stdin().read_to_end(&mut bytes)?;
     // A byte that is no text turns into one that no name may have.
@@ -39,20 +38,11 @@ fn run(rt: &HostRuntime) -> anyhow::Result<bool> {
         Ok(table) => {
             let plan = table.close(processors, delta);
             print!(rt; "{}", Report { plan: &plan })?;
-            Ok(true)
+            Ok(ExitCode::SUCCESS)
         }
         Err(bad) => {
             println!(rt; "{bad}")?;
-            Ok(false)
+            Ok(ExitCode::FAILURE)
         }
-    }
-}
-
-fn main(rt: HostRuntime) -> anyhow::Result<ExitCode> {
-    if run(&rt)? {
-        Ok(ExitCode::SUCCESS)
-    } else {
-        // The line that was printed says all; the status says that there is no report.
-        Ok(ExitCode::FAILURE)
     }
 }

@@ -1,6 +1,5 @@
 // The report of a plan, as text.
-use crate::words::verdict_words;
-use plan::{Name, Plan, Row};
+use plan::{Plan, Row};
 use std::fmt;
 
 // Cells of the bar that shows a reserve.
@@ -20,19 +19,6 @@ impl fmt::Display for Percent {
         let whole = self.0 / 10_000;
         let part = self.0 % 10_000;
         write!(f, "{whole:>3}.{part:04}%")
-    }
-}
-
-// A name, letter by letter.
-#[derive(Clone, Copy)]
-struct Letters(Name);
-
-impl fmt::Display for Letters {
-    fn fmt<W: fmt::Write>(&self, f: &mut fmt::Formatter<W>) -> fmt::Result {
-        for byte in self.0.as_bytes() {
-            f.write_char(char::from(*byte))?;
-        }
-        Ok(())
     }
 }
 
@@ -66,12 +52,14 @@ impl fmt::Display for Report<'_> {
 fn heading<W: fmt::Write>(plan: &Plan, f: &mut fmt::Formatter<W>) -> fmt::Result {
     let processors = plan.processors();
     let delta = plan.delta();
-    let number = plan.verdict().number();
-    let words = verdict_words(plan.verdict());
+    let number = plan.number();
     let shortest = plan.shortest();
     let slot = plan.slot();
     writeln!(f, "processors {processors}, delta {delta}")?;
-    writeln!(f, "verdict {number}: {words}")?;
+    match plan.verdict() {
+        Ok(()) => writeln!(f, "verdict {number}: good")?,
+        Err(refusal) => writeln!(f, "verdict {number}: {refusal}")?,
+    }
     writeln!(f, "shortest period {shortest}, slot {slot}")
 }
 
@@ -81,10 +69,8 @@ fn tasks<W: fmt::Write>(plan: &Plan, f: &mut fmt::Formatter<W>) -> fmt::Result {
     }
     writeln!(f)?;
     writeln!(f, "task   budget   period     charge  bin  name")?;
-    for task in 0..plan.tasks() {
-        if let Some(row) = plan.row(task) {
-            task_line(plan, task, row, f)?;
-        }
+    for (task, row) in (0u8..).zip(plan.rows()) {
+        task_line(plan, task, row, f)?;
     }
     Ok(())
 }
@@ -92,13 +78,13 @@ fn tasks<W: fmt::Write>(plan: &Plan, f: &mut fmt::Formatter<W>) -> fmt::Result {
 fn task_line<W: fmt::Write>(
     plan: &Plan,
     task: u8,
-    row: Row,
+    row: &Row,
     f: &mut fmt::Formatter<W>,
 ) -> fmt::Result {
     let budget = row.budget();
     let period = row.period();
     let charge = Percent(plan.charge(task).unwrap_or(0));
-    let name = Letters(row.name());
+    let name = row.name();
     write!(f, "{task:>4}  {budget:>7}  {period:>7}  {charge}")?;
     match plan.bin(task) {
         Some(bin) => writeln!(f, "  {bin:>3}  {name}"),
@@ -113,12 +99,11 @@ fn bins<W: fmt::Write>(plan: &Plan, f: &mut fmt::Formatter<W>) -> fmt::Result {
     let whole = plan.slot();
     writeln!(f)?;
     writeln!(f, " bin       load  reserve of the slot")?;
-    for bin in 0..plan.bins() {
-        if let (Some(load), Some(part)) = (plan.load(bin), plan.reserve(bin)) {
-            let load = Percent(load);
-            let bar = Bar { part, whole };
-            writeln!(f, "{bin:>4}  {load}  {part:>7}  {bar}")?;
-        }
+    for (number, bin) in plan.packed().iter().enumerate() {
+        let load = Percent(bin.load);
+        let part = bin.reserve;
+        let bar = Bar { part, whole };
+        writeln!(f, "{number:>4}  {load}  {part:>7}  {bar}")?;
     }
     Ok(())
 }

@@ -3,48 +3,44 @@ use crate::input::{Fault, table_of};
 use crate::report::Report;
 use std::test::Fail;
 
-// The line at fault and its refusal, 0 for one that is not of the form; 0 and 0 where there is none.
-fn fault_in(text: &str) -> (usize, u8) {
-    match table_of(text) {
-        Ok(_) => (0, 0),
-        Err(bad) => match bad.fault {
-            Fault::Form => (bad.line, 0),
-            Fault::Row(refusal) => (bad.line, refusal.number()),
-        },
+// The first line at fault, and the number of its refusal, which a line that is not of the form has not.
+fn fault_in(text: &str) -> Option<(usize, Option<u8>)> {
+    let bad = table_of(text).err()?;
+    match bad.fault {
+        Fault::Form => Some((bad.line, None)),
+        Fault::Row(refusal) => Some((bad.line, Some(refusal.number()))),
     }
 }
 
-const LINES: [(&str, usize, u8); 15] = [
-    ("# no rows\n\n", 0, 0),
+const LINES: [(&str, Option<(usize, Option<u8>)>); 15] = [
+    ("# no rows\n\n", None),
     (
         "1 9 sixteen  letters\n1 9 ~ tilde ~\r\n1000000 1000000 a",
-        0,
-        0,
+        None,
     ),
     // the first line at fault counts
-    ("1 2 a\n0 9 b\n3 2 c\n", 2, 1),
-    ("\n5 1000001 oven", 2, 2),
-    ("1 1 a\n3 2 c", 2, 3),
+    ("1 2 a\n0 9 b\n3 2 c\n", Some((2, Some(1)))),
+    ("\n5 1000001 oven", Some((2, Some(2)))),
+    ("1 1 a\n3 2 c", Some((2, Some(3)))),
     // not of the form
-    ("5 oven\n0 9 b", 1, 0),
-    ("-5 9 oven", 1, 0),
-    ("5 4294967296 oven", 1, 0),
+    ("5 oven\n0 9 b", Some((1, None))),
+    ("-5 9 oven", Some((1, None))),
+    ("5 4294967296 oven", Some((1, None))),
     // the name is tested first
-    ("0 9", 1, 15),
-    ("0 9 seventeen letters", 1, 15),
-    ("3 2 caf\u{e9}", 1, 15),
-    ("0 9 \u{7f}", 1, 15),
-    ("0 9 a\tb", 1, 15),
+    ("0 9", Some((1, Some(15)))),
+    ("0 9 seventeen letters", Some((1, Some(15)))),
+    ("3 2 caf\u{e9}", Some((1, Some(15)))),
+    ("0 9 \u{7f}", Some((1, Some(15)))),
+    ("0 9 a\tb", Some((1, Some(15)))),
     // then the budget, the period, and both
-    ("0 1000001 a", 1, 1),
-    ("1000002 1000001 a", 1, 2),
+    ("0 1000001 a", Some((1, Some(1)))),
+    ("1000002 1000001 a", Some((1, Some(2)))),
 ];
 
 #[test]
 fn lines_at_fault(rt: HostRuntime) {
-    for (text, line, number) in LINES {
-        let (l, n) = fault_in(text);
-        assert!(rt; l == line && n == number, "{}", text);
+    for (text, fault) in LINES {
+        assert!(rt; fault_in(text) == fault, "{}", text);
     }
 }
 
