@@ -22,7 +22,7 @@ impl Ranked for Booking {
     ghost ranks = { Prim.search rules };
 
     fn before(&self, other: &Booking) -> bool {
-        self.tick < other.tick || self.tick == other.tick && self.task < other.task
+        (self.tick, self.task) < (other.tick, other.task)
     }
 }
 

@@ -8,10 +8,7 @@ use crate::ranking::{Marked, Ranked};
 fn bears_mark<T: Marked>(x: &T, mark: u8) -> bool
     ensures { result ≡ bears (T.Marked.marking x.now) mark }
 {
-    match x.mark() {
-        Some(own) => own == mark,
-        None => false,
-    }
+    x.mark() == Some(mark)
 }
 
 // The place of the least record that bears the mark, the first of equals; none where no record does.
