@@ -3,6 +3,7 @@ use Rattle.std.proofs.Common.{◌≡◌, ℕ, zero, suc, ◌<◌, ◌≤◌, fal
 use Rattle.std.specs.List.{slice_get}
 use Rattle.std.proofs.lemmas.Bool.Decides.{nat_tests}
 use Rattle.std.proofs.lemmas.Option.{slice_get-get_or}
+use Rattle.order.specs.declared.ranking.Ranked.{Ghosts}
 use Rattle.order.specs.declared.line.Line.{Line}
 use Rattle.order.specs.declared.booking.Booking.{Booking}
 use Rattle.order.specs.Orders.{Sorted, without}
@@ -26,20 +27,19 @@ first_is [] b e = cc
 first_is (y ∷ ys) b e = let f : y ≡ b = cc in ap (λ z. z ∷ ys) f
 
 -- the first booking is taken, if there is one
-pub due_taken : (clock : ℕ) (d : Booking) (old new : Line Booking) (r : Option Booking) → (get_or (held old) 0 d).tick ≤ clock → Take earlier 0 old new r → Due clock old new r
-due_taken clock d old new None le h = record {
+pub due_taken : {g : Ghosts Booking} (clock : ℕ) (d : Booking) (old new : Line Booking g) (r : Option Booking) → Sorted earlier (held old) → (get_or (held old) 0 d).tick ≤ clock → Take 0 old new r → Due clock old new r
+due_taken clock d old new None up le h = record {
   first_later = λ b e. let i = (nth_some (held old) 0 b d e).0 in let n = h.past in omega arith;
   untouched = h.untouched;
-  all_later = λ up k d' l. let n = h.past in omega arith;
+  all_later = λ k d' l. let n = h.past in omega arith;
 }
-due_taken clock d old new (Some b) le h =
+due_taken clock d old new (Some b) up le h =
     let is : held old ≡ b ∷ held new = first_is (held old) b h.was ∙ ap (λ bs. b ∷ bs) (sym h.records) in
     record {
       due = let e = ap (λ x. x.tick) (nth_some (held old) 0 b d h.was).1 in omega arith;
       records = is;
       free = h.free;
-      none_earlier = λ up k d' l. subst (Sorted earlier) is up 0 (suc k) d' (suc-le-suc zero-le) (suc-le-suc l);
-      sorted = h.sorted;
+      none_earlier = λ k d' l. subst (Sorted earlier) is up 0 (suc k) d' (suc-le-suc zero-le) (suc-le-suc l);
     }
 
 -- in order, all bookings are as late as the first
@@ -49,11 +49,11 @@ all_late clock d (b ∷ bs) late up zero d' l = late
 all_late clock d (b ∷ bs) late up (suc k) d' l = let h = not_earlier (get_or bs k d') b (up 0 (suc k) d' (suc-le-suc zero-le) l) in omega arith
 
 -- the first booking stays
-pub due_none : (clock : ℕ) (d : Booking) (l : Line Booking) → clock < (get_or (held l) 0 d).tick → Due clock l l None
-due_none clock d l late = record {
+pub due_none : {g : Ghosts Booking} (clock : ℕ) (d : Booking) (l : Line Booking g) → Sorted earlier (held l) → clock < (get_or (held l) 0 d).tick → Due clock l l None
+due_none clock d l up late = record {
   first_later = λ b e. let f = ap (λ x. x.tick) (nth_some (held l) 0 b d e).1 in omega arith;
   untouched = record { records = refl; free = refl };
-  all_later = all_late clock d (held l) late;
+  all_later = all_late clock d (held l) late up;
 }
 
 -- the least booking that bears a task is its earliest

@@ -11,9 +11,8 @@ returns-in-len1-up c =
     let e = ap (λ bs. (get_or bs 0 d).tick) c.records.ensures in
     let le : (get_or (held old) 0 d).tick ≤ c.args.clock = omega arith in
     record {
-      lent = c.take.ensures.lent;
-      sized = c.take.ensures.sized;
-      due = due_taken c.args.clock d old c.take.new.self c.take.result le c.take.ensures.taken;
+      slots = c.take.ensures.slots;
+      due = due_taken c.args.clock d old c.take.new.self c.take.result old.sorted le c.take.ensures.taken;
     }
 
 pub returns-in_default-2 : goal.returns-in_default-2
@@ -21,4 +20,4 @@ returns-in_default-2 c =
     let d : Booking = record { tick = 0; task = 0 } in
     let e = ap (λ bs. (get_or bs 0 d).tick) c.records.ensures in
     let late : c.args.clock < (get_or (held c.args.self.now) 0 d).tick = omega arith in
-    record { lent = refl; sized = refl; due = due_none c.args.clock d c.args.self.now late }
+    record { slots = record { lent = refl; sized = refl }; due = due_none c.args.clock d c.args.self.now c.args.self.now.sorted late }
