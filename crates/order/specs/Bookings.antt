@@ -1,5 +1,5 @@
 -- Bookings: their order, the one that is due, and the earliest of a task.
-use Rattle.std.specs.Prelude.{◌≡◌, ℕ, ◌<◌, ◌≤◌, Bool, false, cond, List, ◌∷◌, length, get_or, Some, None, Option, ◌==◌, ◌≢◌, nat_lt, slice_index_or}
+use Rattle.std.specs.Prelude.{◌≡◌, ℕ, ◌<◌, ◌≤◌, Bool, false, if◌then◌else◌, List, ◌∷◌, length, Some, None, Option, ◌==◌, ◌≢◌, nat_lt, slice_index_or}
 use Rattle.std.specs.List.{slice_get}
 use Rattle.order.specs.declared.line.Line.{Line}
 use Rattle.order.specs.declared.booking.Booking.{Booking}
@@ -8,7 +8,7 @@ use Rattle.order.specs.Lines.{held, spare, Untouched}
 
 -- by tick, then by task
 abbrev pub earlier : Booking → Booking → Bool
-earlier a b = cond (a.tick == b.tick) (nat_lt a.task b.task) (nat_lt a.tick b.tick)
+earlier a b = if a.tick == b.tick then nat_lt a.task b.task else nat_lt a.tick b.tick
 
 -- lines of bookings
 module _ {g : Ghosts Booking} where
@@ -19,11 +19,11 @@ module _ {g : Ghosts Booking} where
     pub free : spare new ≡ b ∷ spare old
     pub none_earlier : (k : ℕ) (d : Booking) → k < length (held new) → earlier (slice_index_or (held new) k d) b ≡ false
 
-  -- the first booking, if there is one, is not due, so nothing was taken; so none is
+  -- the first booking, if there is one, is not due, so none is, and nothing was taken
   pub record NoneDue (clock : ℕ) (old new : Line Booking g) : Type 0 where
     pub first_later : (b : Booking) → slice_get (held old) 0 ≡ Some b → clock < b.tick
     pub untouched : Untouched old new
-    pub all_later : (k : ℕ) (d : Booking) → k < length (held old) → clock < (get_or (held old) k d).tick
+    pub all_later : (k : ℕ) (d : Booking) → k < length (held old) → clock < (slice_index_or (held old) k d).tick
 
   -- what is taken at a clock, and what is left
   abbrev pub Due : ℕ → Line Booking g → Line Booking g → Option Booking → Type 0

@@ -38,7 +38,7 @@ impl<'a, T: Ranked + Copy> Line<'a, T> {
     pub fn records(&self) -> &[T]
         ensures { result.now ≡ held self.now }
     {
-        &self.slots[0..self.count]
+        &self.slots[..self.count]
     }
 
     // Puts a record in after its equals; refused where no slot is free.
