@@ -1,5 +1,5 @@
 -- What one call of a line leaves, where the line before it is known. For crates above.
-use Rattle.std.proofs.Common.{◌≡◌, ℕ, Bool, List, [], ◌∷◌, length, drop, Some, None, Ok, Err, Option, Result, sym, refl, ap, ◌∙◌, arith}
+use Rattle.std.proofs.Common.{◌≡◌, ℕ, List, [], ◌∷◌, length, drop, Some, None, Ok, Err, Option, Result, sym, refl, ap, ◌∙◌, arith}
 use Rattle.std.specs.List.{slice_get}
 use Rattle.order.specs.declared.ranking.Ranked.{Ghosts}
 use Rattle.order.specs.declared.line.Line.{Line}

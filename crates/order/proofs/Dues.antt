@@ -2,7 +2,7 @@
 use Rattle.std.proofs.Common.{◌≡◌, ℕ, zero, suc, ◌<◌, ◌≤◌, false, List, [], ◌∷◌, length, get_or, Some, None, Option, sym, refl, ap, ◌∙◌, subst, suc-le-suc, zero-le, not-suc-le-zero, arith}
 use Rattle.std.specs.List.{slice_get}
 use Rattle.std.proofs.lemmas.Bool.Decides.{nat_tests}
-use Rattle.std.proofs.lemmas.Option.{slice_get-get_or}
+use Rattle.std.proofs.lemmas.Option.{slice_get-get_or, slice_get_within, get_or_from_slice_get}
 use Rattle.order.specs.declared.ranking.Ranked.{Ghosts}
 use Rattle.order.specs.declared.line.Line.{Line}
 use Rattle.order.specs.declared.booking.Booking.{Booking}
@@ -17,9 +17,7 @@ not_earlier a b e = grind (arith, nat_tests)
 
 -- what stands at a place
 nth_some : {X : Type 0} (xs : List X) (k : ℕ) (x d : X) → slice_get xs k ≡ Some x → (k < length xs) × (get_or xs k d ≡ x)
-nth_some [] k x d e = let z : ◌≡◌ {A = ℕ} 0 1 = cc in (omega arith, cc)
-nth_some (y ∷ ys) zero x d e = (suc-le-suc zero-le, cc)
-nth_some (y ∷ ys) (suc k) x d e = let h = nth_some ys k x d e in (suc-le-suc h.0, h.1)
+nth_some xs k x d e = (slice_get_within xs k x e, get_or_from_slice_get xs k x d e)
 
 -- a list whose first record is b
 first_is : {X : Type 0} (xs : List X) (b : X) → slice_get xs 0 ≡ Some b → xs ≡ b ∷ without xs 0
