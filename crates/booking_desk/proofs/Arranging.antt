@@ -3,6 +3,7 @@ use Rattle.std.proofs.Common.{◌≡◌, ℕ, ◌+◌, ◌<◌, ◌≤◌, true,
 use Rattle.std.proofs.lemmas.List.{length-drop, drop-drop}
 use Rattle.std.proofs.lemmas.List.Sums.{fold_more}
 use Rattle.std.proofs.lemmas.Bool.{both_ways}
+use Rattle.order.specs.contracts.booking.BookingRanked.TheImpl.{ghosts}
 use Rattle.order.specs.declared.line.Line.{Line}
 use Rattle.order.specs.declared.line.LineRefusal.{LineRefusal}
 use Rattle.order.specs.declared.booking.Booking.{Booking}
@@ -12,13 +13,13 @@ use Rattle.order.specs.Bookings.{earlier}
 use Rattle.booking_desk.specs.Timetable.{arranged}
 
 -- the first i of the wanted bookings went into a line
-pub record SoFar (start line : Line Booking) (wanted : List Booking) (i : ℕ) : Type 0 where
+pub record SoFar (start line : Line Booking ghosts) (wanted : List Booking) (i : ℕ) : Type 0 where
   pub records : held line ≡ arranged (held start) (take i wanted)
   pub free : spare line ≡ drop i (spare start)
   pub within : i ≤ length (spare start)
 
 -- one more
-pub one_more : (start line new : Line Booking) (wanted : List Booking) (i : ℕ) (d : Booking) (r : Result (Unit {0}) LineRefusal) → i < length wanted → is_err r ≡ false → Put earlier (get_or wanted i d) line new r → SoFar start line wanted i → SoFar start new wanted (i + 1)
+pub one_more : (start line new : Line Booking ghosts) (wanted : List Booking) (i : ℕ) (d : Booking) (r : Result (Unit {0}) LineRefusal) → i < length wanted → is_err r ≡ false → Put (get_or wanted i d) line new r → SoFar start line wanted i → SoFar start new wanted (i + 1)
 one_more start line new wanted i d (Ok done) l ok h s = record {
   records = h.records ∙ ap (placed earlier (get_or wanted i d)) s.records ∙ sym (fold_more (λ all b. placed earlier b all) (held start) wanted i d l);
   free = h.free ∙ ap (drop 1) s.free ∙ drop-drop 1 i (spare start);
@@ -27,7 +28,7 @@ one_more start line new wanted i d (Ok done) l ok h s = record {
 one_more start line new wanted i d (Err e) l ok h s = elim (both_ways true ok refl) [ ]
 
 -- or no more: the line is full
-pub no_more : (start line new : Line Booking) (wanted : List Booking) (i : ℕ) (b : Booking) (r : Result (Unit {0}) LineRefusal) → is_err r ≡ true → Put earlier b line new r → SoFar start line wanted i → (i ≡ length (spare start)) × SoFar start new wanted i
+pub no_more : (start line new : Line Booking ghosts) (wanted : List Booking) (i : ℕ) (b : Booking) (r : Result (Unit {0}) LineRefusal) → is_err r ≡ true → Put b line new r → SoFar start line wanted i → (i ≡ length (spare start)) × SoFar start new wanted i
 no_more start line new wanted i b (Ok done) bad h s = elim (both_ways false refl bad) [ ]
 no_more start line new wanted i b (Err e) bad h s =
     let n = ap length (sym h.no_room ∙ s.free) ∙ length-drop i (spare start) in

@@ -1,5 +1,5 @@
 -- Bookings put in order one after another, and the sooner of two.
-use Rattle.std.specs.Prelude.{cond, List, [], ◌∷◌, Some, None, fold, Option}
+use Rattle.std.specs.Prelude.{if◌then◌else◌, List, [], ◌∷◌, Some, None, fold, Option}
 use Rattle.order.specs.declared.booking.Booking.{Booking}
 use Rattle.order.specs.Orders.{placed}
 use Rattle.order.specs.Bookings.{earlier}
@@ -10,10 +10,10 @@ arranged done bs = fold (λ all b. placed earlier b all) done bs
 
 -- the sooner of two bookings, the first of equals, and the other one
 abbrev pub sooner_of : Booking → Booking → Booking
-sooner_of a b = cond (earlier b a) b a
+sooner_of a b = if earlier b a then b else a
 
 abbrev pub later_of : Booking → Booking → Booking
-later_of a b = cond (earlier b a) a b
+later_of a b = if earlier b a then a else b
 
 -- which of two bookings is handed out by way of an area: it may have slots for none or one of them
 abbrev pub handed : Booking → Booking → List Booking → Option Booking

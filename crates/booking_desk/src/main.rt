@@ -2,7 +2,7 @@
 #![tactic(auto)]
 
 ghost use Rattle.std.specs.Prelude.{◌≡◌, min, [], ◌++◌, length, take, drop};
-ghost use Rattle.order.specs.Lines.{held, spare};
+ghost use Rattle.order.specs.Lines.{held, spare, SameSlots};
 ghost use Rattle.booking_desk.specs.Timetable.{arranged, handed, left_in};
 
 use order::booking::Booking;
@@ -11,8 +11,7 @@ use std::io;
 
 // Puts bookings in one after another, as long as there is room, and says how many went in.
 fn put_all(line: &mut Line<'_, Booking>, wanted: &[Booking]) -> usize
-    ensures lent { line.new.slots.ghost_name ≡ line.old.slots.ghost_name }
-    ensures sized { length line.new.slots.now ≡ length line.old.slots.now }
+    ensures slots { SameSlots line.old line.new }
     ensures count { result ≡ min (length wanted.now) (length (spare line.old)) }
     ensures records { held line.new ≡ arranged (held line.old) (take result wanted.now) }
     ensures free { spare line.new ≡ drop result (spare line.old) }

@@ -2,7 +2,8 @@
 use Rattle.std.proofs.Common.{◌≡◌, ℕ, zero, suc, ◌<◌, ◌≤◌, false, List, [], ◌∷◌, length, get_or, Some, None, Option, sym, refl, ap, ◌∙◌, subst, suc-le-suc, zero-le, not-suc-le-zero, arith}
 use Rattle.std.specs.List.{slice_get}
 use Rattle.std.proofs.lemmas.Bool.Decides.{nat_tests}
-use Rattle.std.proofs.lemmas.Option.{slice_get-get_or}
+use Rattle.std.proofs.lemmas.Option.{slice_get-get_or, slice_get_within, get_or_from_slice_get}
+use Rattle.order.specs.declared.ranking.Ranked.{Ghosts}
 use Rattle.order.specs.declared.line.Line.{Line}
 use Rattle.order.specs.declared.booking.Booking.{Booking}
 use Rattle.order.specs.Orders.{Sorted, without}
@@ -16,9 +17,7 @@ not_earlier a b e = grind (arith, nat_tests)
 
 -- what stands at a place
 nth_some : {X : Type 0} (xs : List X) (k : ℕ) (x d : X) → slice_get xs k ≡ Some x → (k < length xs) × (get_or xs k d ≡ x)
-nth_some [] k x d e = let z : ◌≡◌ {A = ℕ} 0 1 = cc in (omega arith, cc)
-nth_some (y ∷ ys) zero x d e = (suc-le-suc zero-le, cc)
-nth_some (y ∷ ys) (suc k) x d e = let h = nth_some ys k x d e in (suc-le-suc h.0, h.1)
+nth_some xs k x d e = (slice_get_within xs k x e, get_or_from_slice_get xs k x d e)
 
 -- a list whose first record is b
 first_is : {X : Type 0} (xs : List X) (b : X) → slice_get xs 0 ≡ Some b → xs ≡ b ∷ without xs 0
@@ -26,20 +25,19 @@ first_is [] b e = cc
 first_is (y ∷ ys) b e = let f : y ≡ b = cc in ap (λ z. z ∷ ys) f
 
 -- the first booking is taken, if there is one
-pub due_taken : (clock : ℕ) (d : Booking) (old new : Line Booking) (r : Option Booking) → (get_or (held old) 0 d).tick ≤ clock → Take earlier 0 old new r → Due clock old new r
-due_taken clock d old new None le h = record {
+pub due_taken : {g : Ghosts Booking} (clock : ℕ) (d : Booking) (old new : Line Booking g) (r : Option Booking) → Sorted earlier (held old) → (get_or (held old) 0 d).tick ≤ clock → Take 0 old new r → Due clock old new r
+due_taken clock d old new None up le h = record {
   first_later = λ b e. let i = (nth_some (held old) 0 b d e).0 in let n = h.past in omega arith;
   untouched = h.untouched;
-  all_later = λ up k d' l. let n = h.past in omega arith;
+  all_later = λ k d' l. let n = h.past in omega arith;
 }
-due_taken clock d old new (Some b) le h =
+due_taken clock d old new (Some b) up le h =
     let is : held old ≡ b ∷ held new = first_is (held old) b h.was ∙ ap (λ bs. b ∷ bs) (sym h.records) in
     record {
       due = let e = ap (λ x. x.tick) (nth_some (held old) 0 b d h.was).1 in omega arith;
       records = is;
       free = h.free;
-      none_earlier = λ up k d' l. subst (Sorted earlier) is up 0 (suc k) d' (suc-le-suc zero-le) (suc-le-suc l);
-      sorted = h.sorted;
+      none_earlier = λ k d' l. subst (Sorted earlier) is up 0 (suc k) d' (suc-le-suc zero-le) (suc-le-suc l);
     }
 
 -- in order, all bookings are as late as the first
@@ -49,11 +47,11 @@ all_late clock d (b ∷ bs) late up zero d' l = late
 all_late clock d (b ∷ bs) late up (suc k) d' l = let h = not_earlier (get_or bs k d') b (up 0 (suc k) d' (suc-le-suc zero-le) l) in omega arith
 
 -- the first booking stays
-pub due_none : (clock : ℕ) (d : Booking) (l : Line Booking) → clock < (get_or (held l) 0 d).tick → Due clock l l None
-due_none clock d l late = record {
+pub due_none : {g : Ghosts Booking} (clock : ℕ) (d : Booking) (l : Line Booking g) → Sorted earlier (held l) → clock < (get_or (held l) 0 d).tick → Due clock l l None
+due_none clock d l up late = record {
   first_later = λ b e. let f = ap (λ x. x.tick) (nth_some (held l) 0 b d e).1 in omega arith;
   untouched = record { records = refl; free = refl };
-  all_later = all_late clock d (held l) late;
+  all_later = all_late clock d (held l) late up;
 }
 
 -- the least booking that bears a task is its earliest

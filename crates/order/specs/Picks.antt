@@ -1,10 +1,5 @@
 -- The least record that bears a mark, the first of equals.
-use Rattle.std.specs.Prelude.{◌≡◌, ℕ, ◌<◌, Bool, true, false, List, Some, None, Option, ◌==◌, ◌≢◌, slice_index_or}
-
--- whether a record's own mark is m
-abbrev pub bears : Option ℕ → ℕ → Bool
-bears None m = false
-bears (Some own) m = own == m
+use Rattle.std.specs.Prelude.{◌≡◌, ℕ, ◌<◌, Bool, true, false, List, Some, None, Option, ◌≢◌, slice_index_or}
 
 -- of the first n records the one at i bears m, none that bears m comes before it, and it comes before each of those ahead of it
 pub record Least {X : Type 0} (less : X → X → Bool) (mark : X → Option ℕ) (m : ℕ) (xs : List X) (n i : ℕ) : Type 0 where

@@ -1,6 +1,6 @@
 // Bookings: tasks that are booked for a tick, in a line.
-ghost use Rattle.std.specs.Prelude.{◌≡◌, length, Some};
-ghost use Rattle.order.specs.Lines.{held};
+ghost use Rattle.std.specs.Prelude.{Some};
+ghost use Rattle.order.specs.Lines.{held, SameSlots};
 ghost use Rattle.order.specs.Bookings.{earlier, Due, Earliest};
 ghost use Rattle.std.proofs.Common.{rules};
 
@@ -22,7 +22,7 @@ impl Ranked for Booking {
     ghost ranks = { Prim.search rules };
 
     fn before(&self, other: &Booking) -> bool {
-        self.tick < other.tick || self.tick == other.tick && self.task < other.task
+        (self.tick, self.task) < (other.tick, other.task)
     }
 }
 
@@ -38,8 +38,7 @@ impl Marked for Booking {
 impl Line<'_, Booking> {
     // Takes the first booking out if it is due, so if its tick is at most the clock; else none, and nothing is altered.
     pub fn take_due(&mut self, clock: u32) -> Option<Booking>
-        ensures lent { self.new.slots.ghost_name ≡ self.old.slots.ghost_name }
-        ensures sized { length self.new.slots.now ≡ length self.old.slots.now }
+        ensures slots { SameSlots self.old self.new }
         ensures due { Due clock self.old self.new result }
     {
         match self.records() {

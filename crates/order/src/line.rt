@@ -1,14 +1,18 @@
 // A line: records in order, in slots that the caller hands over.
-ghost use Rattle.std.specs.Prelude.{◌≤◌, length};
+ghost use Rattle.std.specs.Prelude.{◌≤◌, length, take};
+ghost use Rattle.order.specs.Orders.{Sorted};
+
+use crate::ranking::Ranked;
 
 mod calls;
 
 // Records of one kind in order, over slots of the caller's; the slots past the count keep what they hold.
 #[derive(Drop)]
-pub struct Line<'a, T> {
+pub struct Line<'a, T: Ranked> {
     slots: &'a mut [T],
     count: usize,
     ghost within: { count ≤ length slots.now },
+    pub ghost sorted: { Sorted T.less (take count slots.now) },
 }
 
 // Why a line refuses a record.

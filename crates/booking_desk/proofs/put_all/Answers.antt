@@ -1,18 +1,18 @@
 use Rattle.std.proofs.Common.{◌≡◌, ℕ, ◌<◌, length, get_or, sym, refl, ◌∙◌, subst, arith}
 use Rattle.order.specs.declared.booking.Booking.{Booking}
+use Rattle.order.proofs.Calls.{same_slots}
 use Rattle.booking_desk.proofs.Arranging.{SoFar, one_more, no_more}
 use Rattle.booking_desk.proofs.put_all.Goals as goal
 
 pub loop-i-init : goal.loop-i-init
-loop-i-init c = (record { records = refl; free = refl; within = omega arith }, refl, refl)
+loop-i-init c = (record { records = refl; free = refl; within = omega arith }, record { lent = refl; sized = refl })
 
 pub loop-i-preserved : goal.loop-i-preserved
 loop-i-preserved c =
     let d : Booking = record { tick = 0; task = 0 } in
     let l : c.loop-i.i < length c.args.wanted.now = omega arith in (
       one_more c.args.line.now c.loop-i.line c.put.new.self c.args.wanted.now c.loop-i.i d c.put.result l (sym c.if-is_err.ensures.value) c.put.ensures.put c.loop-i.invariant.0,
-      c.put.ensures.lent ∙ c.loop-i.invariant.1,
-      c.put.ensures.sized ∙ c.loop-i.invariant.2,
+      same_slots c.loop-i.invariant.1 c.put.ensures.slots,
     )
 
 pub returns-then-is_err : goal.returns-then-is_err
@@ -22,8 +22,7 @@ returns-then-is_err c =
     let h = no_more c.args.line.now c.loop-i.line c.put.new.self c.args.wanted.now c.loop-i.i b c.put.result (sym c.if-is_err.ensures.value) c.put.ensures.put c.loop-i.invariant.0 in
     let n = h.0 in
     record {
-      lent = c.put.ensures.lent ∙ c.loop-i.invariant.1;
-      sized = c.put.ensures.sized ∙ c.loop-i.invariant.2;
+      slots = same_slots c.loop-i.invariant.1 c.put.ensures.slots;
       count = omega arith;
       records = h.1.records;
       free = h.1.free;
@@ -35,4 +34,4 @@ returns c =
     let At : ℕ → Type 0 = SoFar c.args.line.now c.loop-i.line c.args.wanted.now in
     let h = subst At e c.loop-i.invariant.0 in
     let w = h.within in
-    record { lent = c.loop-i.invariant.1; sized = c.loop-i.invariant.2; count = omega arith; records = h.records; free = h.free }
+    record { slots = c.loop-i.invariant.1; count = omega arith; records = h.records; free = h.free }

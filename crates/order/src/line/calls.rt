@@ -1,7 +1,6 @@
 // What can be done with a line.
 ghost use Rattle.std.specs.Prelude.{◌≡◌, [], length};
-ghost use Rattle.order.specs.Orders.{Sorted};
-ghost use Rattle.order.specs.Lines.{refusal_number, held, spare, Put, Take};
+ghost use Rattle.order.specs.Lines.{refusal_number, held, spare, SameSlots, Put, Take};
 
 use crate::line::{Line, LineRefusal};
 use crate::ranking::Ranked;
@@ -23,7 +22,6 @@ impl<'a, T: Ranked + Copy> Line<'a, T> {
     pub fn new(slots: &'a mut [T]) -> Line<'a, T>
         ensures lent { result.slots.ghost_name ≡ slots.entry.ghost_name }
         ensures empty { held result ≡ [] }
-        ensures sorted { Sorted T.less (held result) }
         ensures free { spare result ≡ slots.old }
     {
         Line { slots, count: 0 }
@@ -40,14 +38,13 @@ impl<'a, T: Ranked + Copy> Line<'a, T> {
     pub fn records(&self) -> &[T]
         ensures { result.now ≡ held self.now }
     {
-        &self.slots[0..self.count]
+        &self.slots[..self.count]
     }
 
     // Puts a record in after its equals; refused where no slot is free.
     pub fn put(&mut self, x: T) -> Result<(), LineRefusal>
-        ensures lent { self.new.slots.ghost_name ≡ self.old.slots.ghost_name }
-        ensures sized { length self.new.slots.now ≡ length self.old.slots.now }
-        ensures put { Put T.less x self.old self.new result }
+        ensures slots { SameSlots self.old self.new }
+        ensures put { Put x self.old self.new result }
     {
         let Line { slots, count } = self;
         if *count == slots.len() {
@@ -60,9 +57,8 @@ impl<'a, T: Ranked + Copy> Line<'a, T> {
 
     // Takes out the record at a place, and the slot that falls free then holds it; none at or past the count.
     pub fn take(&mut self, place: usize) -> Option<T>
-        ensures lent { self.new.slots.ghost_name ≡ self.old.slots.ghost_name }
-        ensures sized { length self.new.slots.now ≡ length self.old.slots.now }
-        ensures taken { Take T.less place self.old self.new result }
+        ensures slots { SameSlots self.old self.new }
+        ensures taken { Take place self.old self.new result }
     {
         let Line { slots, count } = self;
         if place >= *count {

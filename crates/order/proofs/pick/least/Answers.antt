@@ -1,51 +1,22 @@
-use Rattle.std.proofs.Common.{◌≡◌, ℕ, ◌+◌, length, Option, sym, ◌∙◌, subst, arith}
-use Rattle.std.proofs.lemmas.List.{get_or_read}
+use Rattle.std.proofs.Common.{◌≡◌, length, filter, rules, sym, ap, ◌∙◌, subst}
+use Rattle.std.specs.List.{enumerate_from, reduce}
+use Rattle.std.specs.Option.{option_map}
+use Rattle.std.proofs.lemmas.Iterator.{YieldsList-from_slice}
+use Rattle.std.proofs.lemmas.Iterator.Consumers.{YieldsList-at, YieldsList-from_enumerate, YieldsList-from_filter}
 use Rattle.order.specs.Picks.{Picked}
-use Rattle.order.proofs.Picking.{bears_true, bears_false, begin, change, keep, skip, picked_once}
+use Rattle.order.proofs.Picking.{nearer, bearer, number_stays, reduces, chain_picks, picked_once}
 use Rattle.order.proofs.pick.least.Goals as goal
-use Rattle.order.proofs.pick.least.Goals.{then-bears_mark+in-None, then-bears_mark+in-Some+then-before, then-bears_mark+in-Some+else-before, else-bears_mark}
-
-pub loop-i-preserved : goal.loop-i-preserved
-loop-i-preserved g c =
-    let less = g.T.Ranked.less in
-    let mark = g.T.Marked.marking in
-    let o = g.met.T.Ranked.ranks in
-    let m = c.args.mark in
-    let xs = c.args.records.now in
-    let n = c.loop-i.i in
-    let x = c.index-records-i.result in
-    let here = get_or_read xs n x (omega arith) c.index-records-i.is in
-    let Was : Option ℕ → Type 0 = Picked less mark m xs n in
-    let Is : Option ℕ → Type 0 = Picked less mark m xs (n + 1) in
-    elim c.if-bears_mark.branch [
-      | then-bears_mark+in-None w ↦
-          let has = bears_true (mark x) m (sym c.bears_mark.ensures ∙ w.if-bears_mark.true) in
-          subst Is (sym w.best-is) (begin less mark o m xs n x here has (subst Was w.in-None.is c.loop-i.invariant))
-      | then-bears_mark+in-Some+then-before w ↦
-          let has = bears_true (mark x) m (sym c.bears_mark.ensures ∙ w.if-bears_mark.true) in
-          let b = w.in-Some.b in
-          let h = subst Was w.in-Some.is c.loop-i.invariant in
-          let there = get_or_read xs b w.index-records-b.result (omega (arith, h.inside)) w.index-records-b.is in
-          subst Is (sym w.best-is) (change less mark o m xs n x here b w.index-records-b.result there h has (sym w.if-before.ensures))
-      | then-bears_mark+in-Some+else-before w ↦
-          let b = w.in-Some.b in
-          let h = subst Was w.in-Some.is c.loop-i.invariant in
-          let there = get_or_read xs b w.index-records-b.result (omega (arith, h.inside)) w.index-records-b.is in
-          subst Is (sym w.best-is) (keep less mark o m xs n x here b w.index-records-b.result there h (sym w.if-before.ensures))
-      | else-bears_mark w ↦
-          let other = bears_false (mark x) m (sym c.bears_mark.ensures ∙ w.if-bears_mark.false) in
-          subst Is (sym w.best-is) (skip less mark o m xs n x here c.loop-i.best other c.loop-i.invariant)
-    ]
-
-pub offset_bounds-records-b : goal.offset_bounds-records-b
-offset_bounds-records-b g c =
-    let Was : Option ℕ → Type 0 = Picked g.T.Ranked.less g.T.Marked.marking c.args.mark c.args.records.now c.loop-i.i in
-    let h = subst Was c.in-Some.is c.loop-i.invariant in
-    omega (arith, h.inside)
 
 pub returns : goal.returns
 returns g c =
-    let At : ℕ → Type 0 = λ n. Picked g.T.Ranked.less g.T.Marked.marking c.args.mark c.args.records.now n c.loop-i.best in
-    let e : c.loop-i.i ≡ length c.args.records.now = omega arith in
-    let h = subst At e c.loop-i.invariant in
-    record { picked = h; only = λ o q. picked_once g.T.Ranked.less g.T.Marked.marking c.args.mark c.args.records.now o c.loop-i.best q h }
+    let less = g.T.Ranked.less in
+    let mark = g.T.Marked.marking in
+    let m = c.args.mark in
+    let xs = c.args.records.now in
+    let chain : option_map (λ p. (p.0, p.1.now)) c.reduce.result ≡ reduce (nearer less) (filter (bearer mark m) (enumerate_from 0 xs)) =
+    reduces (λ p. (p.0, p.1.now)) _ (nearer less) _ (λ a x b q k. search rules) c.reduce.result c.reduce.ensures.ran
+    (YieldsList-from_filter _ (bearer mark m) (YieldsList-at c.filter.ensures.source (YieldsList-from_enumerate (YieldsList-at c.enumerate.ensures.source (YieldsList-from_slice xs cc)) cc)) c.filter.ensures.closure (λ x b q k. search rules)) in
+    let place : c.map.result ≡ option_map (λ p. p.0) c.reduce.result = search rules in
+    let same = place ∙ number_stays (λ x. x.now) c.reduce.result ∙ ap (option_map (λ p. p.0)) chain in
+    let picked = subst (Picked less mark m xs (length xs)) (sym same) (chain_picks less mark g.met.T.Ranked.ranks m xs) in
+    record { picked = picked; only = λ o q. picked_once less mark m xs o c.map.result q picked }

@@ -1,26 +1,21 @@
-use Rattle.std.proofs.Common.{◌<◌, length, sym, refl, subst, arith}
-use Rattle.std.proofs.lemmas.List.{drop_all}
+use Rattle.std.proofs.Common.{◌<◌, length, sym, subst, arith}
 use Rattle.order.specs.Lines.{held}
 use Rattle.order.specs.Orders.{Sorted, Stands}
-use Rattle.order.proofs.Lining.{put_held, put_spare, put_room, put_sized}
+use Rattle.order.proofs.Lining.{put_held, put_spare, put_room}
 use Rattle.order.proofs.Placement.{placed_stands, placed_sorted}
 use Rattle.order.proofs.line.Line.put.Goals as goal
 
-pub returns-then-count-slots : goal.returns-then-count-slots
-returns-then-count-slots g c = record {
-  lent = refl;
-  sized = refl;
-  put = record {
-    why = refl;
-    no_room = drop_all c.args.self.now.count c.args.self.now.slots.now (omega arith);
-    untouched = record { records = refl; free = refl };
-  };
-}
-
-pub returns : goal.returns
-returns g c =
+pub invariant_of-self-2-clause-sorted : goal.invariant_of-self-2-clause-sorted
+invariant_of-self-2-clause-sorted g c =
     let less = g.T.Ranked.less in
-    let o = g.met.T.Ranked.ranks in
+    let x = c.args.x in
+    let old = held c.args.self.now in
+    let new = put_held less x c.args.self.now.slots.now c.insert_sorted.new.slots c.args.self.now.count (omega arith) c.insert_sorted.ensures in
+    subst (Sorted less) (sym new) (placed_sorted less g.met.T.Ranked.ranks x old c.args.self.now.sorted)
+
+pub returns-clause-put : goal.returns-clause-put
+returns-clause-put g c =
+    let less = g.T.Ranked.less in
     let x = c.args.x in
     let s = c.args.self.now.slots.now in
     let t = c.insert_sorted.new.slots in
@@ -30,13 +25,8 @@ returns g c =
     let old = held c.args.self.now in
     let new = put_held less x s t n l is in
     record {
-      lent = refl;
-      sized = put_sized less x s t n l is;
-      put = record {
-        room = put_room less x s t n l is;
-        records = new;
-        free = put_spare less x s t n l is;
-        stands = λ up. subst (Stands less x old) (sym new) (placed_stands less o x old up);
-        sorted = λ up. subst (Sorted less) (sym new) (placed_sorted less o x old up);
-      };
+      room = put_room less x s t n l is;
+      records = new;
+      free = put_spare less x s t n l is;
+      stands = subst (Stands less x old) (sym new) (placed_stands less g.met.T.Ranked.ranks x old c.args.self.now.sorted);
     }
