@@ -6,7 +6,7 @@ ghost use Rattle.plan.specs.Views.{tasks};
 ghost use Rattle.file_reader.specs.Faults.{call_fault, row_told, row_fault};
 ghost use Rattle.file_reader.specs.Steps.{RowTaken};
 
-use crate::rows::row;
+use crate::rows::{RowFault, row};
 use file_parts::{Call, Fault};
 use plan::{RowRefusal, Table};
 
@@ -96,11 +96,10 @@ impl Cursor {
         let end = self.limit;
         let number = table.count() as usize;
         let (read, rest) = row(&file[at..end]);
-        if read.fault == 15 {
-            return Err(Fault::Name { at: at + 8 });
-        }
-        if read.fault != 0 {
-            return Err(Fault::Cut { end });
+        match read.fault {
+            Some(RowFault::Name) => return Err(Fault::Name { at: at + 8 }),
+            Some(RowFault::Cut) => return Err(Fault::Cut { end }),
+            None => {}
         }
         let name_at = at + read.name_at;
         match table.add(

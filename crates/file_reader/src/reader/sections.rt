@@ -6,7 +6,7 @@ ghost use Rattle.file_reader.specs.Readers.{Headed, head_fault, Came, Sectioned,
 use super::Reader;
 use crate::cursor::word;
 use crate::letters::{has_turn, section_of};
-use file_parts::{Due, Fault, HEAD, Section};
+use file_parts::{Due, Fault, HEAD, Section, SectionKind};
 use plan::Table;
 
 impl<'a> Reader<'a> {
@@ -23,12 +23,8 @@ impl<'a> Reader<'a> {
                 _ => Ok(None),
             };
         }
-        let letter = file[at];
-        match letter {
-            b'T' | b'C' | b'N' => {}
-            _ => return Err(Fault::Letter { at }),
-        }
-        if !has_turn(self.due, letter) {
+        let kind = SectionKind::try_from(file[at]).map_err(|_| Fault::Letter { at })?;
+        if !has_turn(self.due, kind) {
             return Err(Fault::Order { at });
         }
         if end - at < HEAD {
@@ -38,11 +34,11 @@ impl<'a> Reader<'a> {
         if end - at - HEAD < many {
             return Err(Fault::ShortFile { len: end });
         }
-        if letter == b'C' && many == 0 {
+        if kind == SectionKind::Calls && many == 0 {
             return Err(Fault::NoCalls { at: at + 1 });
         }
         let body = &file[at + HEAD..at + HEAD + many];
-        Ok(Some(section_of(letter, body, at)))
+        Ok(Some(section_of(kind, body, at)))
     }
 
     // The next section, its body read too.
@@ -50,9 +46,8 @@ impl<'a> Reader<'a> {
         ensures file { self.new.file.now ≡ self.old.file.now }
         ensures read { Sectioned self.old (tasks table.old) self.new (tasks table.new) result }
     {
-        let section = match self.head()? {
-            None => return Ok(None),
-            Some(section) => section,
+        let Some(section) = self.head()? else {
+            return Ok(None);
         };
         let start = self.cursor.pos + HEAD;
         let end = start + section.body().len();
@@ -81,13 +76,11 @@ impl<'a> Reader<'a> {
         ensures read { elim result [ Ok o ↦ Came self.old (tasks table.old) self.new (tasks table.new) o | Err e ↦ Stopped self.old self.new (tasks table.new) e ] }
     {
         let at = self.cursor.pos;
-        match self.section(table) {
-            Ok(found) => Ok(found),
-            Err(fault) => {
-                self.cursor.pos = at;
-                table.clear();
-                Err(fault)
-            }
+        let found = self.section(table);
+        if found.is_err() {
+            self.cursor.pos = at;
+            table.clear();
         }
+        found
     }
 }
