@@ -1,5 +1,5 @@
 // Sections, one after the other.
-ghost use Rattle.std.specs.Prelude.{◌≡◌, Some, None, Ok, Err};
+ghost use Rattle.std.specs.Prelude.{◌≡◌, Some, MatchResult};
 ghost use Rattle.plan.specs.Views.{tasks};
 ghost use Rattle.file_reader.specs.Readers.{Headed, head_fault, Came, Sectioned, Stopped};
 
@@ -12,7 +12,9 @@ use plan::Table;
 impl<'a> Reader<'a> {
     // The section that stands here, if the file has not ended, by its letter and length alone.
     fn head(&self) -> Result<Option<Section<'a>>, Fault>
-        ensures { elim result [ Ok o ↦ Headed self.now.file.now self.now.cursor.pos self.now.due o | Err e ↦ head_fault self.now.file.now self.now.cursor.pos self.now.due ≡ Some e ] }
+        ensures { MatchResult result
+            (Headed self.now.file.now self.now.cursor.pos self.now.due)
+            (λ e. head_fault self.now.file.now self.now.cursor.pos self.now.due ≡ Some e) }
     {
         let file = self.file;
         let at = self.cursor.pos;
@@ -73,7 +75,9 @@ impl<'a> Reader<'a> {
     // After a fault the reader stands where it stood, and the table has no rows.
     pub fn next(&mut self, table: &mut Table) -> Result<Option<Section<'a>>, Fault>
         ensures file { self.new.file.now ≡ self.old.file.now }
-        ensures read { elim result [ Ok o ↦ Came self.old (tasks table.old) self.new (tasks table.new) o | Err e ↦ Stopped self.old self.new (tasks table.new) e ] }
+        ensures read { MatchResult result
+            (Came self.old (tasks table.old) self.new (tasks table.new))
+            (Stopped self.old self.new (tasks table.new)) }
     {
         let at = self.cursor.pos;
         let found = self.section(table);
