@@ -16,7 +16,7 @@ use crate::piece::{Piece, Pieces, pieces_of};
 pub const LONGEST_LINE: usize = 80;
 
 // The area is too short for the line.
-#[derive(Clone, Copy)]
+#[derive(Clone, Copy, PartialEq, Eq, Debug)]
 pub struct ShortArea;
 
 impl ShortArea {
