@@ -1,8 +1,8 @@
 // Writing a plan file.
-ghost use Rattle.std.specs.Prelude.{◌≡◌, ◌+◌, ◌≤◌, ◌∷◌, length, if◌then◌else◌, Ok, Err, nat_eq};
+ghost use Rattle.std.specs.Prelude.{◌≡◌, ◌+◌, ◌≤◌, ◌∷◌, length, if◌then◌else◌, MatchResult, nat_eq};
 ghost use Rattle.std.specs.List.{flat_map};
 ghost use Rattle.plan.specs.Views.{tasks};
-ghost use Rattle.planfile.specs.Areas.{placed};
+ghost use Rattle.areas.specs.Areas.{placed};
 ghost use Rattle.file_reader.specs.Bytes.{two};
 ghost use Rattle.file_reader.specs.Grammar.{row_bytes};
 ghost use Rattle.file_reader.specs.Meaning.{written};
@@ -19,7 +19,7 @@ pub const LONGEST_CALLS: usize = 65_535;
 
 // Tests a list of calls to its end.
 fn test_calls(bytes: &[u8]) -> Result<(), Fault>
-    ensures { elim result [ Ok u ↦ CallsWhole bytes.now 0 (length bytes.now) | Err e ↦ CallsBroken bytes.now 0 (length bytes.now) e ] }
+    ensures { MatchResult result (λ _. CallsWhole bytes.now 0 (length bytes.now)) (CallsBroken bytes.now 0 (length bytes.now)) }
 {
     let mut calls = Calls::new(bytes);
     while let Some(_) = calls.next()? {}
@@ -120,9 +120,7 @@ pub fn write(
     if !names_layout(settings.letter) {
         return Err(NotWritten::Letter);
     }
-    if let Err(fault) = test_calls(calls) {
-        return Err(NotWritten::Calls { fault });
-    }
+    test_calls(calls)?;
     if calls.len() > LONGEST_CALLS {
         return Err(NotWritten::LongCalls);
     }

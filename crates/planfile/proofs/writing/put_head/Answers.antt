@@ -1,6 +1,6 @@
 use Rattle.std.proofs.Common.{◌+◌, [], ◌∷◌, refl, rules}
 use Rattle.file_reader.specs.Bytes.{two}
-use Rattle.planfile.proofs.Placing.{placed_then}
+use Rattle.areas.proofs.Placing.{placed_then}
 use Rattle.planfile.proofs.writing.put_head.Goals as goal
 
 pub returns : goal.returns

@@ -2,9 +2,9 @@ use Rattle.std.proofs.Common.{◌≡◌, ◌+◌, length, take, sym, ap, ◌∙�
 use Rattle.std.specs.List.{flat_map}
 use Rattle.std.proofs.lemmas.List.{take_all}
 use Rattle.plan.specs.Views.{task_of, tasks}
-use Rattle.planfile.specs.Areas.{placed}
+use Rattle.areas.specs.Areas.{placed}
 use Rattle.file_reader.specs.Grammar.{row_bytes}
-use Rattle.planfile.proofs.Placing.{placed_nothing, placed_length, placed_then}
+use Rattle.areas.proofs.Placing.{placed_nothing, placed_length, placed_then}
 use Rattle.planfile.proofs.RowByRow.{rows_front, rows_front_length, rows_front_within, row_there}
 use Rattle.planfile.proofs.writing.put_rows.Goals as goal
 use Rattle.planfile.proofs.writing.put_rows.Goals.{in-Some, in_default}

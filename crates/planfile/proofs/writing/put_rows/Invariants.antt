@@ -1,7 +1,7 @@
 use Rattle.std.proofs.Common.{◌≡◌, ◌+◌, length, take}
 use Rattle.std.specs.List.{flat_map}
 use Rattle.plan.specs.Views.{tasks}
-use Rattle.planfile.specs.Areas.{placed}
+use Rattle.areas.specs.Areas.{placed}
 use Rattle.file_reader.specs.Grammar.{row_bytes}
 use Rattle.planfile.proofs.writing.put_rows.Given as goal
 
