@@ -1,14 +1,14 @@
 -- Every closing keeps the laws.
-use Rattle.std.proofs.Common.{◌≡◌, ℕ, ◌*◌, ◌/◌, ◌<◌, ◌≤◌, Bool, true, false, cond, eqb, ltb, leb, ◌≢◌, ◌⊎◌, List, [], map, length, get_or, Some, sym, refl, ap, subst, inl, inr, ⊎_elim, arith}
+use Rattle.std.proofs.Common.{◌≡◌, ℕ, ◌*◌, ◌/◌, ◌<◌, ◌≤◌, Bool, true, false, cond, eqb, ltb, leb, ◌≢◌, ◌⊎◌, List, [], map, length, get_or, Some, Ok, Err, sym, refl, ap, subst, inl, inr, ⊎_elim, arith}
 use Rattle.std.specs.List.{slice_get}
 use Rattle.std.proofs.lemmas.List.{length-map, get_or-map, get_or_past}
 use Rattle.std.proofs.lemmas.Option.{slice_get-get_or}
 use Rattle.std.proofs.lemmas.Bool.{cases_lt, and_parts, leb-true, eqb-false, ltb-false}
-use Rattle.plan.specs.declared.verdict.Verdict.{Verdict}
-use Rattle.plan.specs.declared.verdict.Verdict.TheVariants.{Good, BadProcessors, BadDelta, NoRows, ShortPeriod}
+use Rattle.plan.specs.declared.verdict.PlanRefusal.{PlanRefusal}
+use Rattle.plan.specs.declared.verdict.PlanRefusal.TheVariants.{BadProcessors, BadDelta, NoRows, ShortPeriod}
 use Rattle.plan.specs.Rows.{Task}
 use Rattle.plan.specs.Method.{full, charge, shortest_of, loads_from, bins_from, reserve_of}
-use Rattle.plan.specs.Closing.{in_range, verdict_of, where_good, charges_of, slot_of, bins_of, loads_of, closed}
+use Rattle.plan.specs.Closing.{Verdict, Good, in_range, verdict_of, where_good, charges_of, slot_of, bins_of, loads_of, closed}
 use Rattle.plan.specs.Laws.{GoodRow, FirstFit, Slot, Reserve, GoodPlan, NoPlan, Lawful}
 use Rattle.plan.proofs.FirstFit.{first_fit}
 use Rattle.plan.proofs.Periods.{Timed, shortest_is}
@@ -34,30 +34,28 @@ spared false v w n e = (refl, e)
 ranged : (n : ℕ) → in_range n ≡ true → (1 ≤ n) × (n ≤ 16)
 ranged n e = let parts = and_parts (leb 1 n) (leb n 16) e in (leb-true 1 n parts.0, leb-true n 16 parts.1)
 
+-- no refusal is good
+not : (e : PlanRefusal) → ◌≡◌ {A = Verdict} (Err e) Good → ⊥
+not e z = let n : ◌≡◌ {A = ℕ} 0 1 = cc in omega arith
+
 pub sound : (ts : List Task) (m δ : ℕ) → verdict_of ts m δ ≡ Good → Sound ts m δ
 sound ts m δ good =
-    let late : Verdict = cond (ltb (shortest_of ts) δ) ShortPeriod Good in
-    let rows : Verdict = cond (eqb (length ts) 0) NoRows late in
-    let a = chosen (in_range m) (cond (in_range δ) rows BadDelta) BadProcessors (λ e. let z : ◌≡◌ {A = ℕ} 0 1 = cc in omega arith) good in
-    let b = chosen (in_range δ) rows BadDelta (λ e. let z : ◌≡◌ {A = ℕ} 0 1 = cc in omega arith) a.1 in
-    let c = spared (eqb (length ts) 0) NoRows late (λ e. let z : ◌≡◌ {A = ℕ} 0 1 = cc in omega arith) b.1 in
-    let d = spared (ltb (shortest_of ts) δ) ShortPeriod Good (λ e. let z : ◌≡◌ {A = ℕ} 0 1 = cc in omega arith) c.1 in
+    let late : Verdict = cond (ltb (shortest_of ts) δ) (Err ShortPeriod) Good in
+    let rows : Verdict = cond (eqb (length ts) 0) (Err NoRows) late in
+    let a = chosen (in_range m) (cond (in_range δ) rows (Err BadDelta)) (Err BadProcessors) (not BadProcessors) good in
+    let b = chosen (in_range δ) rows (Err BadDelta) (not BadDelta) a.1 in
+    let c = spared (eqb (length ts) 0) (Err NoRows) late (not NoRows) b.1 in
+    let d = spared (ltb (shortest_of ts) δ) (Err ShortPeriod) Good (not ShortPeriod) c.1 in
     let nonzero : length ts ≢ 0 = eqb-false (length ts) 0 c.0 in
     record { processors = ranged m a.0; delta = ranged δ b.0; rows = omega arith; long = ltb-false (shortest_of ts) δ d.0 }
 
 pub good_or_not : (v : Verdict) → (v ≡ Good) ⊎ (v ≡ Good → ⊥)
-good_or_not Good = inl refl
-good_or_not BadProcessors = inr (λ e. let z : ◌≡◌ {A = ℕ} 0 1 = cc in omega arith)
-good_or_not BadDelta = inr (λ e. let z : ◌≡◌ {A = ℕ} 0 1 = cc in omega arith)
-good_or_not NoRows = inr (λ e. let z : ◌≡◌ {A = ℕ} 0 1 = cc in omega arith)
-good_or_not ShortPeriod = inr (λ e. let z : ◌≡◌ {A = ℕ} 0 1 = cc in omega arith)
+good_or_not (Ok good) = inl refl
+good_or_not (Err e) = inr (not e)
 
 not_good : {X : Type 0} (v : Verdict) (x none : X) → (v ≡ Good → ⊥) → where_good v x none ≡ none
-not_good Good x none n = absurd (n refl)
-not_good BadProcessors x none n = refl
-not_good BadDelta x none n = refl
-not_good NoRows x none n = refl
-not_good ShortPeriod x none n = refl
+not_good (Ok good) x none n = absurd (n refl)
+not_good (Err e) x none n = refl
 
 pub as_good : {X : Type 0} (v : Verdict) (x none : X) → v ≡ Good → where_good v x none ≡ x
 as_good v x none e = ap (λ w. where_good w x none) e

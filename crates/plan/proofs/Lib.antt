@@ -1,4 +1,3 @@
-pub mod Fronts
 pub mod Keeping
 pub mod Naming
 pub mod Filling

@@ -1,9 +1,16 @@
 -- What closing a table gives.
-use Rattle.std.specs.Prelude.{ℕ, ◌/◌, Bool, cond, ◌&&◌, List, [], map, length, ◌==◌, nat_le, nat_lt}
-use Rattle.plan.specs.declared.verdict.Verdict.{Verdict}
-use Rattle.plan.specs.declared.verdict.Verdict.TheVariants.{Good, BadProcessors, BadDelta, NoRows, ShortPeriod}
+use Rattle.std.specs.Prelude.{ℕ, ◌/◌, ⊤, Bool, cond, ◌&&◌, List, [], map, length, Result, Ok, Err, ◌==◌, nat_le, nat_lt}
+use Rattle.plan.specs.declared.verdict.PlanRefusal.{PlanRefusal}
+use Rattle.plan.specs.declared.verdict.PlanRefusal.TheVariants.{BadProcessors, BadDelta, NoRows, ShortPeriod}
 use Rattle.plan.specs.Rows.{Task}
 use Rattle.plan.specs.Method.{charge, loads_from, bins_from, shortest_of, reserve_of}
+
+-- a plan is good, or refused
+abbrev pub Verdict : Type 0
+Verdict = Result ⊤ PlanRefusal
+
+abbrev pub Good : Verdict
+Good = Ok tt
 
 -- everything that can be asked of a plan
 pub record Planned : Type 0 where
@@ -25,18 +32,15 @@ in_range n = nat_le 1 n && nat_le n 16
 
 -- the first refusal that applies to a table of `rows` rows, the shortest period being `shortest`
 abbrev pub judged : ℕ → ℕ → ℕ → ℕ → Verdict
-judged m δ rows shortest = cond (in_range m) (cond (in_range δ) (cond (rows == 0) NoRows (cond (nat_lt shortest δ) ShortPeriod Good)) BadDelta) BadProcessors
+judged m δ rows shortest = cond (in_range m) (cond (in_range δ) (cond (rows == 0) (Err NoRows) (cond (nat_lt shortest δ) (Err ShortPeriod) Good)) (Err BadDelta)) (Err BadProcessors)
 
 abbrev pub verdict_of : List Task → ℕ → ℕ → Verdict
 verdict_of ts m δ = judged m δ (length ts) (shortest_of ts)
 
 -- what a good plan has, and a plan that is refused has not
 abbrev pub where_good : {X : Type 0} → Verdict → X → X → X
-where_good Good x none = x
-where_good BadProcessors x none = none
-where_good BadDelta x none = none
-where_good NoRows x none = none
-where_good ShortPeriod x none = none
+where_good (Ok good) x none = x
+where_good (Err e) x none = none
 
 abbrev pub charges_of : List Task → List ℕ
 charges_of ts = map charge ts

@@ -1,9 +1,8 @@
 -- Worked cases of the method, with what closing gives in each.
-use Rattle.std.specs.Prelude.{◌≡◌, ℕ, List, [], ◌∷◌, map}
-use Rattle.plan.specs.declared.verdict.Verdict.{Verdict}
-use Rattle.plan.specs.declared.verdict.Verdict.TheVariants.{Good, ShortPeriod}
+use Rattle.std.specs.Prelude.{◌≡◌, ℕ, List, [], ◌∷◌, map, Err}
+use Rattle.plan.specs.declared.verdict.PlanRefusal.TheVariants.{ShortPeriod}
 use Rattle.plan.specs.Rows.{Task}
-use Rattle.plan.specs.Closing.{closed}
+use Rattle.plan.specs.Closing.{Verdict, Good, closed}
 
 -- rows are pairs of budget and period
 pub record Case : Type 0 where
@@ -46,7 +45,7 @@ abbrev pub narrow : Case
 narrow = record { rows = (1, 3) ∷ []; processors = 1; delta = 3; verdict = Good; slot = 1; bins = 0 ∷ []; loads = 333334 ∷ []; reserves = 1 ∷ [] }
 
 abbrev pub too_narrow : Case
-too_narrow = record { rows = (1, 3) ∷ []; processors = 1; delta = 4; verdict = ShortPeriod; slot = 0; bins = []; loads = []; reserves = [] }
+too_narrow = record { rows = (1, 3) ∷ []; processors = 1; delta = 4; verdict = Err ShortPeriod; slot = 0; bins = []; loads = []; reserves = [] }
 
 -- tasks that need a processor each
 abbrev pub whole : Case

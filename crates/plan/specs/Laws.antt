@@ -1,10 +1,9 @@
 -- The rules of the method, as laws that every plan keeps.
 use Rattle.std.specs.Prelude.{◌≡◌, ℕ, zero, suc, ◌+◌, ◌*◌, ◌<◌, ◌≤◌, cond, List, [], length, Some, None, ◌==◌, ◌≢◌, slice_index}
 use Rattle.std.specs.List.{slice_get}
-use Rattle.plan.specs.declared.verdict.Verdict.TheVariants.{Good}
 use Rattle.plan.specs.Rows.{Task, name_refusal}
 use Rattle.plan.specs.Method.{full, charge}
-use Rattle.plan.specs.Closing.{Planned, charges_of}
+use Rattle.plan.specs.Closing.{Planned, Good, charges_of}
 
 -- x is n ÷ d, or the next whole number above it
 pub record LeastAbove (n d x : ℕ) : Type 0 where

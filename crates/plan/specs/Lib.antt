@@ -7,3 +7,5 @@ pub mod Laws
 pub mod Packs
 pub mod Plans
 pub mod Examples
+pub mod Words
+pub mod Bins

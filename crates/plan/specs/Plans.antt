@@ -1,7 +1,8 @@
 -- What a plan's memory stands for.
-use Rattle.std.specs.Prelude.{length, take}
+use Rattle.std.specs.Prelude.{map}
 use Rattle.plan.specs.declared.plan.Plan.{Plan}
-use Rattle.plan.specs.Closing.{Planned, bins_of}
+use Rattle.plan.specs.Bins.{load_of, reserve_in}
+use Rattle.plan.specs.Closing.{Planned}
 use Rattle.plan.specs.Views.{tasks}
 
 abbrev pub planned : Plan → Planned
@@ -12,7 +13,7 @@ planned p = record {
   verdict = p.verdict;
   shortest = p.shortest;
   slot = p.slot;
-  bins = take (length (bins_of (tasks p.table) p.processors p.delta)) p.bin_of;
-  loads = take p.bins p.loads;
-  reserves = take p.bins p.reserves;
+  bins = p.bin_of.items;
+  loads = map load_of p.bins.items;
+  reserves = map reserve_in p.bins.items;
 }

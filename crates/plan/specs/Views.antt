@@ -1,16 +1,16 @@
 -- What a table's memory stands for.
-use Rattle.std.specs.Prelude.{ℕ, List, map, take}
+use Rattle.std.specs.Prelude.{ℕ, List, map}
 use Rattle.plan.specs.declared.name.Name.{Name}
 use Rattle.plan.specs.declared.row.Row.{Row}
 use Rattle.plan.specs.declared.table.Table.{Table}
 use Rattle.plan.specs.Rows.{Task}
 
 abbrev pub letters : Name → List ℕ
-letters n = take n.len n.bytes
+letters n = n.text.bytes
 
 abbrev pub task_of : Row → Task
 task_of r = record { budget = r.budget; period = r.period; name = letters r.name }
 
--- the rows of a table, in order; slots past its count hold none
+-- the rows of a table, in order
 abbrev pub tasks : Table → List Task
-tasks t = map task_of (take t.count t.rows)
+tasks t = map task_of t.rows.items

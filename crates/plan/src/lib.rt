@@ -3,6 +3,7 @@
 
 ghost use Rattle.std.specs.Prelude.{◌≡◌, ◌+◌, ◌-◌, ◌/◌, ◌^◌, ◌<◌};
 
+pub mod bin;
 pub mod examples;
 pub mod name;
 mod packing;
@@ -15,12 +16,13 @@ pub mod verdict;
 // A whole processor, in millionths: charges and loads are counted in these.
 pub const FULL: u32 = 1_000_000;
 
+pub use bin::Bin;
 pub use name::Name;
 pub use plan::Plan;
 pub use refusal::RowRefusal;
 pub use row::Row;
 pub use table::Table;
-pub use verdict::Verdict;
+pub use verdict::{PlanRefusal, Verdict};
 
 // n ÷ d, rounded up.
 pub(crate) fn quotient_up(n: u64, d: u64) -> u64

@@ -1,8 +1,10 @@
 // The name of a task.
-ghost use Rattle.std.specs.Prelude.{◌≡◌, ℕ, ◌<◌, ◌≤◌, true, length, take, Some, None, Ok, Err, slice_index};
+ghost use Rattle.std.specs.Prelude.{◌≡◌, ◌∷◌, [], None, MatchResult, Some};
 ghost use Rattle.plan.specs.Rows.{printable, name_refusal};
 
 use crate::refusal::RowRefusal;
+use arrayvec::ArrayString;
+use std::fmt;
 
 // The longest name.
 pub const NAME_BYTES: usize = 16;
@@ -10,52 +12,61 @@ pub const NAME_BYTES: usize = 16;
 // 1 to 16 bytes of printable ASCII, the space among them.
 #[derive(Clone, Copy)]
 pub struct Name {
-    bytes: [u8; NAME_BYTES],
-    len: u8,
-    ghost wide: { length bytes ≡ 16 },
-    ghost some: { 1 ≤ len },
-    ghost short: { len ≤ 16 },
-    ghost clean: { (k : ℕ) → k < len → printable (slice_index bytes k) ≡ true },
+    text: ArrayString<NAME_BYTES>,
+    ghost good: { name_refusal text.bytes ≡ None },
 }
 
 fn is_printable(byte: u8) -> bool
     ensures { result ≡ printable byte }
 {
-    byte >= 0x20 && byte <= 0x7E
+    matches!(byte, b' '..=b'~')
+}
+
+impl Default for Name {
+    ghost is_default = { λ n. n.text.bytes ≡ 45 ∷ [] };
+
+    fn default() -> Name {
+        let mut text = ArrayString::new();
+        text.push('-');
+        Name { text }
+    }
+}
+
+impl fmt::Display for Name {
+    ghost output = { λ n. Some n.text.bytes };
+
+    fn fmt<W: fmt::Write>(&self, f: &mut fmt::Formatter<W>) -> fmt::Result {
+        f.write_str(self.as_str())
+    }
 }
 
 impl Name {
     // The name that these bytes spell.
-    pub(crate) fn new(text: &[u8]) -> Result<Name, RowRefusal>
-        ensures { elim result [ Ok n ↦ (name_refusal text.now ≡ None) × (take n.len n.bytes ≡ text.now) | Err e ↦ name_refusal text.now ≡ Some e ] }
+    pub(crate) fn new(bytes: &[u8]) -> Result<Name, RowRefusal>
+        ensures { MatchResult result (λ n. (name_refusal bytes.now ≡ None) × (n.text.bytes ≡ bytes.now)) (λ e. name_refusal bytes.now ≡ Some e) }
     {
-        if text.is_empty() || text.len() > NAME_BYTES {
+        if bytes.is_empty() || bytes.len() > NAME_BYTES {
             return Err(RowRefusal::NameLength);
         }
-        let mut bytes = [0; NAME_BYTES];
-        for i in 0..text.len() {
-            if !is_printable(text[i]) {
-                return Err(RowRefusal::NameByte { at: i as u8 });
+        let mut text = ArrayString::new();
+        for (at, byte) in bytes.iter().enumerate() {
+            if !is_printable(*byte) {
+                return Err(RowRefusal::NameByte { at: at as u8 });
             }
-            bytes[i] = text[i];
+            text.push(char::from(*byte));
         }
-        Ok(Name {
-            bytes,
-            len: text.len() as u8,
-        })
-    }
-
-    // A name for slots of a table that hold no row yet.
-    pub(crate) fn vacant() -> Name {
-        Name {
-            bytes: [0x2D; NAME_BYTES],
-            len: 1,
-        }
+        Ok(Name { text })
     }
 
     pub fn as_bytes(&self) -> &[u8]
-        ensures { result.now ≡ take self.now.len self.now.bytes }
+        ensures { result.now ≡ self.now.text.bytes }
     {
-        &self.bytes[0..self.len as usize]
+        self.as_str().as_bytes()
+    }
+
+    pub fn as_str(&self) -> &str
+        ensures { result.now ≡ self.now.text.bytes }
+    {
+        self.text.as_str()
     }
 }

@@ -1,75 +1,66 @@
 // First-Fit: charges come one after another, and each goes to the lowest bin with room.
-ghost use Rattle.std.specs.Prelude.{◌≡◌, ℕ, ◌+◌, ◌<◌, ◌≤◌, length, take, nat_le, slice_index, slice_set};
+ghost use Rattle.std.specs.Prelude.{◌≡◌, ℕ, ◌+◌, ◌<◌, ◌≤◌, [], ◌∷◌, ◌++◌, nat_le, slice_index};
+ghost use Rattle.arrayvec.specs.ArrayVec.{array_vec_len};
 ghost use Rattle.plan.specs.Method.{full, place, put};
 
 use crate::FULL;
 use crate::table::ROWS;
+use arrayvec::ArrayVec;
 
 #[derive(Drop)]
 pub(crate) struct Packing {
-    pub(crate) bins: u8,
     // The bin of each task.
-    pub(crate) bin_of: [u8; ROWS],
+    pub(crate) bin_of: ArrayVec<u8, ROWS>,
     // The load of each bin.
-    pub(crate) loads: [u32; ROWS],
-    ghost few: { bins ≤ 64 },
-    ghost long: { length bin_of ≡ 64 },
-    ghost wide: { length loads ≡ 64 },
-    ghost light: { (p : ℕ) → slice_index loads p ≤ full },
+    pub(crate) loads: ArrayVec<u32, ROWS>,
+    ghost few: { array_vec_len loads ≤ array_vec_len bin_of },
+    ghost light: { (p : ℕ) → slice_index loads.items p ≤ full },
 }
 
 // Whether a bin of this load can take the charge.
 fn has_room(load: u32, charge: u32) -> bool
-    requires load { load ≤ full }
-    requires charge { charge ≤ full }
     ensures { result ≡ nat_le (load + charge) full }
 {
-    load + charge <= FULL
+    load.saturating_add(charge) <= FULL
 }
 
 impl Packing {
     // No bins, and no task placed.
     pub(crate) fn new() -> Packing
-        ensures { result.bins ≡ 0 }
+        ensures tasks { result.bin_of.items ≡ [] }
+        ensures bins { result.loads.items ≡ [] }
     {
         Packing {
-            bins: 0,
-            bin_of: [0; ROWS],
-            loads: [0; ROWS],
+            bin_of: ArrayVec::new(),
+            loads: ArrayVec::new(),
         }
     }
 
     // The lowest bin with room for the charge, or the next number.
-    fn place(&self, charge: u32) -> u8
-        requires { charge ≤ full }
-        ensures within { result ≤ self.now.bins }
-        ensures lowest { result ≡ place charge (take self.now.bins self.now.loads) }
+    fn place(&self, charge: u32) -> usize
+        ensures within { result ≤ array_vec_len self.now.loads }
+        ensures lowest { result ≡ place charge self.now.loads.items }
     {
-        for bin in 0..self.bins {
-            if has_room(self.loads[bin as usize], charge) {
+        for (bin, load) in self.loads.iter().enumerate() {
+            if has_room(*load, charge) {
                 return bin;
             }
         }
-        self.bins
+        self.loads.len()
     }
 
     // Puts a task into its bin.
-    pub(crate) fn put(&mut self, task: u8, charge: u32)
-        requires task { task < 64 }
-        requires few { self.old.bins ≤ task }
+    pub(crate) fn put(&mut self, charge: u32)
+        requires room { array_vec_len self.old.bin_of < 64 }
         requires charge { charge ≤ full }
-        ensures placed { self.new.bin_of ≡ slice_set self.old.bin_of task (place charge (take self.old.bins self.old.loads)) }
-        ensures loaded { take self.new.bins self.new.loads ≡ put charge (take self.old.bins self.old.loads) }
-        ensures counted { self.new.bins ≡ length (put charge (take self.old.bins self.old.loads)) }
+        ensures placed { self.new.bin_of.items ≡ self.old.bin_of.items ++ place charge self.old.loads.items ∷ [] }
+        ensures loaded { self.new.loads.items ≡ put charge self.old.loads.items }
     {
         let bin = self.place(charge);
-        let at = bin as usize;
-        self.bin_of[task as usize] = bin;
-        if bin == self.bins {
-            self.loads[at] = charge;
-            self.bins += 1;
-        } else {
-            self.loads[at] += charge;
+        self.bin_of.push(bin as u8);
+        match self.loads.get_mut(bin) {
+            Some(load) => *load += charge,
+            None => self.loads.push(charge),
         }
     }
 }

@@ -1,11 +1,15 @@
 // The plan: a closed table with its bins, its slot and its reserves.
-ghost use Rattle.std.specs.Prelude.{◌≡◌, ◌≤◌, length, take};
+ghost use Rattle.std.specs.Prelude.{◌≡◌, ◌≤◌, map};
+ghost use Rattle.arrayvec.specs.ArrayVec.{array_vec_len};
 ghost use Rattle.plan.specs.Method.{shortest_of};
 ghost use Rattle.plan.specs.Closing.{verdict_of, slot_of, bins_of, loads_of, reserves_of};
+ghost use Rattle.plan.specs.Bins.{load_of, reserve_in};
 ghost use Rattle.plan.specs.Views.{tasks};
 
+use crate::bin::Bin;
 use crate::table::{ROWS, Table};
 use crate::verdict::Verdict;
+use arrayvec::ArrayVec;
 
 mod closing;
 mod questions;
@@ -23,17 +27,14 @@ pub struct Plan {
     verdict: Verdict,
     shortest: u32,
     slot: u32,
-    bins: u8,
-    bin_of: [u8; ROWS],
-    loads: [u32; ROWS],
-    reserves: [u32; ROWS],
-    ghost few: { bins ≤ 64 },
-    ghost wide: { (length bin_of ≡ 64) × (length loads ≡ 64) × (length reserves ≡ 64) },
+    // The bin of each task.
+    bin_of: ArrayVec<u8, ROWS>,
+    bins: ArrayVec<Bin, ROWS>,
+    ghost few: { array_vec_len bins ≤ 64 },
     ghost judged: { verdict ≡ verdict_of (tasks table) processors delta },
     ghost least: { shortest ≡ shortest_of (tasks table) },
     ghost cut: { slot ≡ slot_of (tasks table) processors delta },
-    ghost counted: { bins ≡ length (loads_of (tasks table) processors delta) },
-    ghost placed: { take (length (bins_of (tasks table) processors delta)) bin_of ≡ bins_of (tasks table) processors delta },
-    ghost loaded: { take bins loads ≡ loads_of (tasks table) processors delta },
-    ghost reserved: { take bins reserves ≡ reserves_of (tasks table) processors delta },
+    ghost placed: { bin_of.items ≡ bins_of (tasks table) processors delta },
+    ghost loaded: { map load_of bins.items ≡ loads_of (tasks table) processors delta },
+    ghost reserved: { map reserve_in bins.items ≡ reserves_of (tasks table) processors delta },
 }

@@ -1,6 +1,10 @@
 // Why a row is refused.
-ghost use Rattle.std.specs.Prelude.{◌≡◌};
+ghost use Rattle.std.specs.Prelude.{◌≡◌, Some};
 ghost use Rattle.plan.specs.Refusals.{row_number};
+ghost use Rattle.plan.specs.Words.{row_words};
+
+use std::error::Error;
+use std::fmt;
 
 // The cases stand in the order in which a row is tested.
 #[derive(Clone, Copy, PartialEq, Eq, Debug)]
@@ -29,3 +33,20 @@ impl RowRefusal {
         }
     }
 }
+
+impl fmt::Display for RowRefusal {
+    ghost output = { λ e. Some (row_words e) };
+
+    fn fmt<W: fmt::Write>(&self, f: &mut fmt::Formatter<W>) -> fmt::Result {
+        f.write_str(match self {
+            RowRefusal::NameLength => "the name is not 1 to 16 bytes long",
+            RowRefusal::NameByte { at: _ } => "the name has a byte that is not printable ASCII",
+            RowRefusal::NoBudget => "the budget is 0",
+            RowRefusal::LongPeriod => "the period is above 1000000",
+            RowRefusal::BudgetAbovePeriod => "the budget is above the period",
+            RowRefusal::TableFull => "the table has 64 rows already",
+        })
+    }
+}
+
+impl Error for RowRefusal {}

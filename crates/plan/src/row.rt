@@ -1,5 +1,5 @@
 // A row of a table: one sporadic task.
-ghost use Rattle.std.specs.Prelude.{◌≡◌, ◌*◌, ◌≤◌, Some, None, Ok, Err};
+ghost use Rattle.std.specs.Prelude.{◌≡◌, ◌*◌, ◌≤◌, ◌∷◌, [], Some, None, MatchResult};
 ghost use Rattle.plan.specs.Rows.{number_refusal};
 ghost use Rattle.plan.specs.Method.{full, up};
 
@@ -22,9 +22,22 @@ pub struct Row {
     ghost short: { period ≤ 1000000 },
 }
 
+// The least row. A table keeps it in the places that it has no row for.
+impl Default for Row {
+    ghost is_default = { λ r. (r.budget ≡ 1) × (r.period ≡ 1) × (r.name.text.bytes ≡ 45 ∷ []) };
+
+    fn default() -> Row {
+        Row {
+            budget: 1,
+            period: 1,
+            name: Name::default(),
+        }
+    }
+}
+
 impl Row {
     pub(crate) fn new(budget: u32, period: u32, name: Name) -> Result<Row, RowRefusal>
-        ensures { elim result [ Ok row ↦ (number_refusal budget period ≡ None) × (row.budget ≡ budget) × (row.period ≡ period) × (row.name ≡ name) | Err e ↦ number_refusal budget period ≡ Some e ] }
+        ensures { MatchResult result (λ row. (number_refusal budget period ≡ None) × (row.budget ≡ budget) × (row.period ≡ period) × (row.name ≡ name)) (λ e. number_refusal budget period ≡ Some e) }
     {
         if budget == 0 {
             return Err(RowRefusal::NoBudget);
@@ -40,15 +53,6 @@ impl Row {
             period,
             name,
         })
-    }
-
-    // For slots of a table that hold no row yet.
-    pub(crate) fn vacant() -> Row {
-        Row {
-            budget: 1,
-            period: 1,
-            name: Name::vacant(),
-        }
     }
 
     // The share of a processor that the task needs, in millionths, rounded up.

@@ -1,7 +1,9 @@
 // The task table, open for rows.
-ghost use Rattle.std.specs.Prelude.{◌≡◌, ◌≤◌, length};
+ghost use Rattle.std.specs.Prelude.{◌≤◌};
+ghost use Rattle.arrayvec.specs.ArrayVec.{array_vec_len};
 
 use crate::row::Row;
+use arrayvec::ArrayVec;
 
 mod calls;
 mod figures;
@@ -13,8 +15,6 @@ pub const ROWS: usize = 64;
 // Rows in the order in which they came. Memory is fixed: a controller must not fail for want of it.
 #[derive(Drop)]
 pub struct Table {
-    rows: [Row; ROWS],
-    count: u8,
-    ghost wide: { length rows ≡ 64 },
-    ghost few: { count ≤ 64 },
+    rows: ArrayVec<Row, ROWS>,
+    ghost few: { array_vec_len rows ≤ 64 },
 }

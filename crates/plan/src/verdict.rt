@@ -1,12 +1,17 @@
 // What is said of a table when it is closed.
-ghost use Rattle.std.specs.Prelude.{◌≡◌};
-ghost use Rattle.plan.specs.Refusals.{verdict_number};
+ghost use Rattle.std.specs.Prelude.{◌≡◌, Some};
+ghost use Rattle.plan.specs.Refusals.{plan_number};
+ghost use Rattle.plan.specs.Words.{plan_words};
+
+use std::error::Error;
+use std::fmt;
+
+// A good plan has bins, a slot and reserves; else the first refusal that applied.
+pub type Verdict = Result<(), PlanRefusal>;
 
 // The refusals stand in the order in which a closing is tested.
 #[derive(Clone, Copy, PartialEq, Eq, Debug)]
-pub enum Verdict {
-    // The plan has bins, a slot and reserves.
-    Good,
+pub enum PlanRefusal {
     // Not 1 to 16 processors.
     BadProcessors,
     // Delta is not 1 to 16.
@@ -16,17 +21,31 @@ pub enum Verdict {
     ShortPeriod,
 }
 
-impl Verdict {
-    // 0 for a good plan, else the refusal's number.
+impl PlanRefusal {
+    // The refusal's number, by which files, firmware and reports know it.
     pub fn number(self) -> u8
-        ensures { result ≡ verdict_number self }
+        ensures { result ≡ plan_number self }
     {
         match self {
-            Verdict::Good => 0,
-            Verdict::BadProcessors => 4,
-            Verdict::BadDelta => 5,
-            Verdict::NoRows => 25,
-            Verdict::ShortPeriod => 26,
+            PlanRefusal::BadProcessors => 4,
+            PlanRefusal::BadDelta => 5,
+            PlanRefusal::NoRows => 25,
+            PlanRefusal::ShortPeriod => 26,
         }
     }
 }
+
+impl fmt::Display for PlanRefusal {
+    ghost output = { λ e. Some (plan_words e) };
+
+    fn fmt<W: fmt::Write>(&self, f: &mut fmt::Formatter<W>) -> fmt::Result {
+        f.write_str(match self {
+            PlanRefusal::BadProcessors => "the processors are not 1 to 16",
+            PlanRefusal::BadDelta => "delta is not 1 to 16",
+            PlanRefusal::NoRows => "the table has no rows",
+            PlanRefusal::ShortPeriod => "the shortest period is below delta",
+        })
+    }
+}
+
+impl Error for PlanRefusal {}

@@ -1,67 +1,85 @@
 // Closing a table, and opening it again.
-ghost use Rattle.std.specs.Prelude.{◌≡◌, ◌/◌, ◌≤◌, map, length, take, ◌≢◌};
-ghost use Rattle.plan.specs.declared.verdict.Verdict.TheVariants.{Good};
+ghost use Rattle.std.specs.Prelude.{◌≡◌, ℕ, ◌/◌, ◌≤◌, map, Err, slice_index};
 ghost use Rattle.plan.specs.Method.{full, shortest_of, reserve_of};
-ghost use Rattle.plan.specs.Closing.{judged, verdict_of, closed};
+ghost use Rattle.plan.specs.Bins.{load_of, reserve_in};
+ghost use Rattle.plan.specs.Closing.{Good, judged, verdict_of, closed};
 ghost use Rattle.plan.specs.Laws.{Lawful};
 ghost use Rattle.plan.specs.Plans.{planned};
 ghost use Rattle.plan.specs.Views.{tasks};
 
 use super::{LARGEST_DELTA, MOST_PROCESSORS, Plan};
+use crate::bin::Bin;
 use crate::packing::Packing;
 use crate::table::{ROWS, Table};
-use crate::verdict::Verdict;
+use crate::verdict::{PlanRefusal, Verdict};
 use crate::{FULL, quotient_up};
+use arrayvec::ArrayVec;
 
 fn judge(processors: u8, delta: u8, rows: u8, shortest: u32) -> Verdict
     ensures { result ≡ judged processors delta rows shortest }
 {
     if processors < 1 || processors > MOST_PROCESSORS {
-        Verdict::BadProcessors
+        Err(PlanRefusal::BadProcessors)
     } else if delta < 1 || delta > LARGEST_DELTA {
-        Verdict::BadDelta
+        Err(PlanRefusal::BadDelta)
     } else if rows == 0 {
-        Verdict::NoRows
+        Err(PlanRefusal::NoRows)
     } else if shortest < delta as u32 {
-        Verdict::ShortPeriod
+        Err(PlanRefusal::ShortPeriod)
     } else {
-        Verdict::Good
+        Ok(())
     }
 }
 
-// The longest slot of which the shortest period has delta.
-fn slot(shortest: u32, delta: u8) -> u32
-    requires shortest { shortest ≤ 1000000 }
-    requires delta { 1 ≤ delta }
-    ensures { result ≡ shortest / delta }
-{
-    shortest / delta as u32
+// How time is cut: into slots, of which the shortest period has delta.
+#[derive(Clone, Copy)]
+struct Cut {
+    slot: u32,
+    delta: u8,
+    ghost short: { slot ≤ 1000000 },
+    ghost some: { 1 ≤ delta },
 }
 
-// The ticks of each slot that a bin of this load gets, rounded up.
-fn reserve(slot: u32, delta: u8, load: u32) -> u32
-    requires slot { slot ≤ 1000000 }
-    requires delta { 1 ≤ delta }
-    requires load { load ≤ full }
-    ensures { result ≡ reserve_of slot delta load }
-{
-    let delta = delta as u64;
-    let load = load as u64;
-    let wanted = slot as u64 * (delta + 1) * load;
-    let part = load + delta * FULL as u64;
-    quotient_up(wanted, part) as u32
-}
-
-fn reserves(slot: u32, delta: u8, packing: &Packing) -> [u32; ROWS]
-    requires slot { slot ≤ 1000000 }
-    requires delta { 1 ≤ delta }
-    ensures { take packing.now.bins result ≡ map (reserve_of slot delta) (take packing.now.bins packing.now.loads) }
-{
-    let mut reserves = [0; ROWS];
-    for bin in 0..packing.bins as usize {
-        reserves[bin] = reserve(slot, delta, packing.loads[bin]);
+impl Cut {
+    // The longest slot of which the shortest period has delta.
+    fn of(shortest: u32, delta: u8) -> Cut
+        requires shortest { shortest ≤ 1000000 }
+        requires delta { 1 ≤ delta }
+        ensures { (result.slot ≡ shortest / delta) × (result.delta ≡ delta) }
+    {
+        Cut {
+            slot: shortest / delta as u32,
+            delta,
+        }
     }
-    reserves
+
+    // The ticks of each slot that a bin of this load gets, rounded up.
+    fn reserve(self, load: u32) -> u32
+        requires { load ≤ full }
+        ensures { result ≡ reserve_of self.slot self.delta load }
+    {
+        let delta = self.delta as u64;
+        let load = load as u64;
+        let wanted = self.slot as u64 * (delta + 1) * load;
+        let part = load + delta * FULL as u64;
+        quotient_up(wanted, part) as u32
+    }
+}
+
+// Bins of these loads, with their reserves.
+fn bins(cut: Cut, loads: &ArrayVec<u32, ROWS>) -> ArrayVec<Bin, ROWS>
+    requires { (p : ℕ) → slice_index loads.now.items p ≤ full }
+    ensures loads { map load_of result.items ≡ loads.now.items }
+    ensures reserves { map reserve_in result.items ≡ map (reserve_of cut.slot cut.delta) loads.now.items }
+{
+    let mut bins = ArrayVec::new();
+    for load in loads.iter() {
+        bins.push(Bin {
+            load: *load,
+            reserve: cut.reserve(*load),
+        });
+    }
+    bins
 }
 
 // The plan of a table that was found good.
@@ -70,32 +88,31 @@ fn with_bins(table: Table, processors: u8, delta: u8, shortest: u32) -> Plan
     requires shortest { shortest ≡ shortest_of (tasks table) }
     ensures { (result.table ≡ table) × (result.processors ≡ processors) × (result.delta ≡ delta) }
 {
-    let slot = slot(shortest, delta);
+    let cut = Cut::of(shortest, delta);
     let packing = table.first_fit();
-    let reserves = reserves(slot, delta, &packing);
-    let Packing {
-        bins,
-        bin_of,
-        loads,
-    } = packing;
+    let bins = bins(cut, &packing.loads);
+    let Packing { bin_of, loads: _ } = packing;
     Plan {
         table,
         processors,
         delta,
-        verdict: Verdict::Good,
+        verdict: Ok(()),
         shortest,
-        slot,
-        bins,
+        slot: cut.slot,
         bin_of,
-        loads,
-        reserves,
+        bins,
     }
 }
 
 // The plan of a table that was refused.
-fn without_bins(table: Table, processors: u8, delta: u8, verdict: Verdict, shortest: u32) -> Plan
-    requires refused { verdict ≢ Good }
-    requires verdict { verdict ≡ verdict_of (tasks table) processors delta }
+fn without_bins(
+    table: Table,
+    processors: u8,
+    delta: u8,
+    refusal: PlanRefusal,
+    shortest: u32,
+) -> Plan
+    requires refused { Err refusal ≡ verdict_of (tasks table) processors delta }
     requires shortest { shortest ≡ shortest_of (tasks table) }
     ensures { (result.table ≡ table) × (result.processors ≡ processors) × (result.delta ≡ delta) }
 {
@@ -103,13 +120,11 @@ fn without_bins(table: Table, processors: u8, delta: u8, verdict: Verdict, short
         table,
         processors,
         delta,
-        verdict,
+        verdict: Err(refusal),
         shortest,
         slot: 0,
-        bins: 0,
-        bin_of: [0; ROWS],
-        loads: [0; ROWS],
-        reserves: [0; ROWS],
+        bin_of: ArrayVec::new(),
+        bins: ArrayVec::new(),
     }
 }
 
@@ -121,10 +136,9 @@ impl Table {
         ensures table { result.table ≡ self }
     {
         let shortest = self.shortest();
-        let verdict = judge(processors, delta, self.count(), shortest);
-        match verdict {
-            Verdict::Good => with_bins(self, processors, delta, shortest),
-            _ => without_bins(self, processors, delta, verdict, shortest),
+        match judge(processors, delta, self.count(), shortest) {
+            Ok(()) => with_bins(self, processors, delta, shortest),
+            Err(refusal) => without_bins(self, processors, delta, refusal, shortest),
         }
     }
 }
@@ -141,10 +155,8 @@ impl Plan {
             verdict: _,
             shortest: _,
             slot: _,
-            bins: _,
             bin_of: _,
-            loads: _,
-            reserves: _,
+            bins: _,
         } = self;
         closed
     }

@@ -1,12 +1,15 @@
 // What can be asked of a plan. The numbers of tasks, bins and processors begin at 0.
-ghost use Rattle.std.specs.Prelude.{◌≡◌, length, sum};
+ghost use Rattle.std.specs.Prelude.{◌≡◌, length, map, sum};
 ghost use Rattle.std.specs.Option.{option_map};
 ghost use Rattle.std.specs.List.{slice_get};
+ghost use Rattle.plan.specs.Bins.{load_of, reserve_in};
 ghost use Rattle.plan.specs.Closing.{charges_of};
 ghost use Rattle.plan.specs.Plans.{planned};
+ghost use Rattle.plan.specs.Refusals.{verdict_number};
 ghost use Rattle.plan.specs.Views.{task_of};
 
 use super::Plan;
+use crate::bin::Bin;
 use crate::row::Row;
 use crate::verdict::Verdict;
 
@@ -16,6 +19,16 @@ impl Plan {
         ensures { result ≡ (planned self.now).verdict }
     {
         self.verdict
+    }
+
+    // 0 for a good plan, else the refusal's number.
+    pub fn number(&self) -> u8
+        ensures { result ≡ verdict_number (planned self.now).verdict }
+    {
+        match self.verdict {
+            Ok(()) => 0,
+            Err(refusal) => refusal.number(),
+        }
     }
 
     // The processors, as they were given.
@@ -39,6 +52,13 @@ impl Plan {
         self.table.count()
     }
 
+    // The rows, in order.
+    pub fn rows(&self) -> &[Row]
+        ensures { map task_of result.now ≡ (planned self.now).tasks }
+    {
+        self.table.rows()
+    }
+
     // The row of a task, or none where there is no such task.
     pub fn row(&self, task: u8) -> Option<Row>
         ensures { option_map task_of result ≡ slice_get (planned self.now).tasks task }
@@ -58,56 +78,45 @@ impl Plan {
     pub fn bin(&self, task: u8) -> Option<u8>
         ensures { result ≡ slice_get (planned self.now).bins task }
     {
-        match self.verdict {
-            Verdict::Good => {
-                if task < self.table.count() {
-                    Some(self.bin_of[task as usize])
-                } else {
-                    None
-                }
-            }
-            _ => None,
-        }
+        self.bin_of.get(task as usize).copied()
     }
 
     // How many bins there are.
     pub fn bins(&self) -> u8
         ensures { result ≡ length (planned self.now).loads }
     {
-        self.bins
+        self.bins.len() as u8
+    }
+
+    // The bins, in order.
+    pub fn packed(&self) -> &[Bin]
+        ensures loads { map load_of result.now ≡ (planned self.now).loads }
+        ensures reserves { map reserve_in result.now ≡ (planned self.now).reserves }
+    {
+        self.bins.as_slice()
     }
 
     // The sum of the charges in a bin, or none where there is no such bin.
     pub fn load(&self, bin: u8) -> Option<u32>
         ensures { result ≡ slice_get (planned self.now).loads bin }
     {
-        if bin < self.bins {
-            Some(self.loads[bin as usize])
-        } else {
-            None
-        }
+        let bin = self.bins.get(bin as usize)?;
+        Some(bin.load)
     }
 
     // The ticks of each slot that a bin gets, or none where there is no such bin.
     pub fn reserve(&self, bin: u8) -> Option<u32>
         ensures { result ≡ slice_get (planned self.now).reserves bin }
     {
-        if bin < self.bins {
-            Some(self.reserves[bin as usize])
-        } else {
-            None
-        }
+        let bin = self.bins.get(bin as usize)?;
+        Some(bin.reserve)
     }
 
     // The reserves of all bins together.
     pub fn reserved(&self) -> u32
         ensures { result ≡ sum (planned self.now).reserves }
     {
-        let mut ticks = 0;
-        for bin in 0..self.bins as usize {
-            ticks += self.reserves[bin];
-        }
-        ticks
+        self.bins.iter().map(|bin| bin.reserve).sum()
     }
 
     // The shortest period of the table, 0 where it has no rows.

@@ -25,8 +25,8 @@ impl Table {
         ensures { result ≡ shortest_of (tasks self.now) }
     {
         let mut least = 0;
-        for task in 0..self.count {
-            least = shorter(least, self.rows[task as usize].period());
+        for row in self.rows.iter() {
+            least = shorter(least, row.period());
         }
         least
     }
@@ -36,9 +36,8 @@ impl Table {
         ensures { Packs (charges_of (tasks self.now)) result }
     {
         let mut packing = Packing::new();
-        for task in 0..self.count {
-            let charge = self.rows[task as usize].charge();
-            packing.put(task, charge);
+        for row in self.rows.iter() {
+            packing.put(row.charge());
         }
         packing
     }

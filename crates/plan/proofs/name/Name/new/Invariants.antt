@@ -1,5 +1,5 @@
-use Rattle.plan.proofs.Naming.{Copied}
+use Rattle.plan.proofs.Naming.{Spelled}
 use Rattle.plan.proofs.name.Name.new.Given as goal
 
-abbrev pub invariant-loop-i : goal.invariant-loop-i
-invariant-loop-i l = Copied l.text l.bytes l.i
+abbrev pub invariant-loop-at : goal.invariant-loop-at
+invariant-loop-at l = Spelled l.bytes l.text.bytes l.at

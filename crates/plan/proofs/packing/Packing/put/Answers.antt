@@ -1,54 +1,33 @@
-use Rattle.std.proofs.Common.{◌≡◌, ◌+◌, ◌<◌, ◌≤◌, get_or, take, set, ap, ◌∙◌, arith}
-use Rattle.std.proofs.lemmas.List.{length-set}
+use Rattle.std.proofs.Common.{◌≡◌, ◌+◌, ◌<◌, ◌≤◌, length, get_or, set, sym, ap, ◌∙◌, subst, arith, rules}
 use Rattle.plan.specs.Method.{full, put}
-use Rattle.plan.proofs.Placing.{added, opened, room, light_set, counted}
+use Rattle.plan.proofs.FirstFit.{put_light}
+use Rattle.plan.proofs.Placing.{put_set, put_open}
 use Rattle.plan.proofs.packing.Packing.put.Goals as goal
 
-pub invariant_of-self : goal.invariant_of-self
-invariant_of-self c =
-    let s = c.args.self.now in
-    record {
-      few = omega arith;
-      long = length-set s.bin_of c.args.task c.place-bin.result ∙ s.long;
-      wide = length-set s.loads c.place-bin.result c.args.charge ∙ s.wide;
-      light = light_set s.loads c.place-bin.result c.args.charge (omega (arith, s.wide)) (omega arith) s.light;
-    }
+pub returns-in-Some-clause-loaded : goal.returns-in-Some-clause-loaded
+returns-in-Some-clause-loaded c =
+    let ws = c.args.self.now.loads.items in
+    let at = c.place-bin.ensures.lowest in
+    let l : c.place-bin.result < length ws = search rules in
+    let is : c.in-Some.load.now ≡ get_or ws c.place-bin.result 0 = search rules in
+    ap (λ v. set ws c.place-bin.result (v + c.args.charge)) is
+    ∙ ap (λ q. set ws q (get_or ws q 0 + c.args.charge)) at
+    ∙ sym (put_set c.args.charge ws (omega (arith, at)))
 
-pub invariant_of-self-else-bin-self : goal.invariant_of-self-else-bin-self
-invariant_of-self-else-bin-self c =
-    let s = c.args.self.now in
-    let p = c.place-bin.result in
-    let v = get_or s.loads p 0 + c.args.charge in
-    let l : p < s.bins = omega arith in
-    let fits : v ≤ full = room c.args.charge s.loads s.bins p (omega (arith, s.few, s.wide)) c.place-bin.ensures.lowest (omega arith) l in
-    record {
-      few = omega arith;
-      long = length-set s.bin_of c.args.task p ∙ s.long;
-      wide = length-set s.loads p v ∙ s.wide;
-      light = light_set s.loads p v (omega (arith, s.wide)) fits s.light;
-    }
+pub returns-in-None-clause-loaded : goal.returns-in-None-clause-loaded
+returns-in-None-clause-loaded c =
+    let ws = c.args.self.now.loads.items in
+    let l : length ws ≤ c.place-bin.result = search rules in
+    c.push-in-None.ensures.items ∙ sym (put_open c.args.charge ws (omega (arith, c.place-bin.ensures.lowest, c.place-bin.ensures.within)))
 
-pub returns-then-bin-self : goal.returns-then-bin-self
-returns-then-bin-self c =
-    let s = c.args.self.now in
-    let p = c.place-bin.result in
-    let is : take (s.bins + 1) (set s.loads p c.args.charge) ≡ put c.args.charge (take s.bins s.loads) =
-    opened c.args.charge s.loads s.bins p (omega (arith, s.few, s.wide)) c.place-bin.ensures.lowest (omega arith) (omega (arith, s.wide)) in
-    record {
-      placed = ap (λ b. set s.bin_of c.args.task b) c.place-bin.ensures.lowest;
-      loaded = is;
-      counted = counted (set s.loads p c.args.charge) (put c.args.charge (take s.bins s.loads)) (s.bins + 1) (omega (arith, s.wide, length-set s.loads p c.args.charge)) is;
-    }
-
-pub returns-else-bin-self : goal.returns-else-bin-self
-returns-else-bin-self c =
-    let s = c.args.self.now in
-    let p = c.place-bin.result in
-    let v = get_or s.loads p 0 + c.args.charge in
-    let is : take s.bins (set s.loads p v) ≡ put c.args.charge (take s.bins s.loads) =
-    added c.args.charge s.loads s.bins p (omega (arith, s.few, s.wide)) c.place-bin.ensures.lowest (omega arith) in
-    record {
-      placed = ap (λ b. set s.bin_of c.args.task b) c.place-bin.ensures.lowest;
-      loaded = is;
-      counted = counted (set s.loads p v) (put c.args.charge (take s.bins s.loads)) s.bins (omega (arith, s.few, s.wide, length-set s.loads p v)) is;
-    }
+-- the loads after the write are those of First-Fit, which stay light
+pub invariant_of-self-clause-light : goal.invariant_of-self-clause-light
+invariant_of-self-clause-light c =
+    let ws = c.args.self.now.loads.items in
+    let at = c.place-bin.ensures.lowest in
+    let l : c.place-bin.result < length ws = search rules in
+    let is : c.in-Some.load.now ≡ get_or ws c.place-bin.result 0 = search rules in
+    let loaded : set ws c.place-bin.result (c.in-Some.load.now + c.args.charge) ≡ put c.args.charge ws = ap (λ v. set ws c.place-bin.result (v + c.args.charge)) is
+    ∙ ap (λ q. set ws q (get_or ws q 0 + c.args.charge)) at
+    ∙ sym (put_set c.args.charge ws (omega (arith, at))) in
+    λ p. subst (λ xs. get_or xs p 0 ≤ full) (sym loaded) (put_light c.args.charge c.requires.charge ws c.args.self.now.light p)

@@ -1,33 +1,32 @@
-use Rattle.std.proofs.Common.{◌≡◌, ◌<◌, length, sym, ap, ◌∙◌, arith}
+use Rattle.std.proofs.Common.{◌<◌, [], length, get_or, take, ap, sym, ◌∙◌, arith}
 use Rattle.std.proofs.lemmas.List.{length-map, length-take-le, get_or-map}
 use Rattle.plan.specs.Method.{charge}
 use Rattle.plan.specs.Closing.{charges_of}
 use Rattle.plan.specs.Views.{task_of, tasks}
-use Rattle.plan.proofs.Filling.{packs_more, packs_all}
-use Rattle.plan.proofs.Rowing.{tasks_count, tasks_read}
+use Rattle.plan.proofs.Filling.{packs_more}
+use Rattle.plan.proofs.FirstFit.{bins_length}
 use Rattle.plan.proofs.table.Table.first_fit.Goals as goal
 
-pub put-requires : goal.put-requires
-put-requires c =
+pub put-requires-clause-room : goal.put-requires-clause-room
+put-requires-clause-room c =
     let t = c.args.self.now in
-    let many : length (charges_of (tasks t)) ≡ t.count = length-map (tasks t) charge ∙ tasks_count t in
-    record {
-      task = omega (arith, t.few);
-      few = omega (arith, c.loop-task.invariant.few, length-take-le c.loop-task.task (charges_of (tasks t)) (omega (arith, many)));
-      charge = c.charge-charge.ensures.light;
-    }
+    let cs = charges_of (tasks t) in
+    let i = c.loop-row.row-index in
+    omega (
+      arith,
+      ap length c.loop-row.invariant.placed,
+      bins_length [] (take i cs),
+      length-take-le i cs (omega (arith, length-map (tasks t) charge, length-map t.rows.items task_of, ap length c.deref-row-items.ensures.0)),
+      t.few,
+    )
 
-pub loop-task-preserved : goal.loop-task-preserved
-loop-task-preserved c =
+pub loop-row-preserved : goal.loop-row-preserved
+loop-row-preserved c =
     let t = c.args.self.now in
-    let r = c.index-self-task.result in
-    let l : c.loop-task.task < length (tasks t) = omega (arith, tasks_count t) in
-    let many : length (charges_of (tasks t)) ≡ t.count = length-map (tasks t) charge ∙ tasks_count t in
-    packs_more (charges_of (tasks t)) c.loop-task.task c.charge-charge.result c.loop-task.packing c.put.new.self (omega (arith, many)) (omega (arith, t.few))
-    (get_or-map charge (tasks t) c.loop-task.task (task_of r) 0 l ∙ ap charge (tasks_read t c.loop-task.task r (omega arith) c.index-self-task.is (task_of r)) ∙ ap (λ x. charge (task_of x)) c.index-self-task.is ∙ sym c.charge-charge.ensures.is)
-    c.loop-task.invariant c.put.ensures.placed c.put.ensures.loaded c.put.ensures.counted
-
-pub returns : goal.returns
-returns c =
-    let t = c.args.self.now in
-    packs_all (charges_of (tasks t)) c.loop-task.task c.loop-task.packing (omega (arith, length-map (tasks t) charge, tasks_count t)) c.loop-task.invariant
+    let r = c.row-item.result in
+    let i = c.loop-row.row-index in
+    let here = c.deref-row-items.ensures.0 in
+    let l : i < length t.rows.items = omega (arith, ap length here) in
+    packs_more (charges_of (tasks t)) i c.charge.result c.loop-row.packing c.put.new.self (omega (arith, length-map (tasks t) charge, length-map t.rows.items task_of))
+    (get_or-map charge (tasks t) i (task_of r) 0 (omega (arith, length-map t.rows.items task_of)) ∙ ap charge (get_or-map task_of t.rows.items i r (task_of r) l) ∙ ap (λ x. charge (task_of x)) (sym (c.row-item.is ∙ ap (λ xs. get_or xs i r) here)) ∙ sym c.charge.ensures.is)
+    c.loop-row.invariant c.put.ensures.placed c.put.ensures.loaded

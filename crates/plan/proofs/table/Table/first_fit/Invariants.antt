@@ -4,5 +4,5 @@ use Rattle.plan.specs.Packs.{Packs}
 use Rattle.plan.specs.Views.{tasks}
 use Rattle.plan.proofs.table.Table.first_fit.Given as goal
 
-abbrev pub invariant-loop-task : goal.invariant-loop-task
-invariant-loop-task l = Packs (take l.task (charges_of (tasks l.self))) l.packing
+abbrev pub invariant-loop-row : goal.invariant-loop-row
+invariant-loop-row l = Packs (take l.row-index (charges_of (tasks l.self))) l.packing
