@@ -31,13 +31,7 @@ fn rows_len(table: &Table) -> usize
     ensures is { result ≡ length (flat_map row_bytes (tasks table.now)) }
     ensures short { result ≤ 1600 }
 {
-    let mut len = 0;
-    for i in 0..table.count() {
-        if let Some(row) = table.row(i) {
-            len += row_len(&row);
-        }
-    }
-    len
+    table.rows().iter().map(row_len).sum()
 }
 
 // How long a file is with so many bytes of rows and of calls.
@@ -59,11 +53,9 @@ fn put_rows(area: &mut [u8], at: usize, table: &Table)
     ensures { area.new ≡ placed area.old at (flat_map row_bytes (tasks table.now)) }
 {
     let mut end = at;
-    for i in 0..table.count() {
-        if let Some(row) = table.row(i) {
-            put_row(area, end, &row);
-            end += row_len(&row);
-        }
+    for row in table.rows() {
+        put_row(area, end, row);
+        end += row_len(row);
     }
 }
 
