@@ -1,7 +1,7 @@
 // Bytes written into an area.
 ghost use Rattle.std.specs.Prelude.{◌≡◌, ◌+◌, ◌≤◌, length};
 ghost use Rattle.plan.specs.Views.{task_of};
-ghost use Rattle.file_reader.specs.Bytes.{two, four};
+ghost use Rattle.file_reader.specs.Bytes.{four};
 ghost use Rattle.file_reader.specs.Grammar.{row_bytes};
 ghost use Rattle.areas.specs.Areas.{placed};
 
@@ -13,13 +13,6 @@ pub(crate) fn put(area: &mut [u8], at: usize, bytes: &[u8])
     ensures { area.new ≡ placed area.old at bytes.now }
 {
     area[at..at + bytes.len()].copy_from_slice(bytes);
-}
-
-pub(crate) fn put_word(area: &mut [u8], at: usize, n: u16)
-    requires { at + 2 ≤ length area.old }
-    ensures { area.new ≡ placed area.old at (two n) }
-{
-    put(area, at, &n.to_be_bytes());
 }
 
 fn put_long(area: &mut [u8], at: usize, n: u32)

@@ -9,7 +9,7 @@ ghost use Rattle.file_reader.specs.Meaning.{written};
 ghost use Rattle.planfile.specs.Writing.{WrittenOrNot, ReadsBack, SameBytes};
 ghost use Rattle.file_reader.specs.Readers.{CallsWhole, CallsBroken};
 
-use crate::pen::{put, put_row, put_word, row_len};
+use crate::pen::{put, put_row, row_len};
 use file_parts::{Fault, HEAD, NotWritten, Settings};
 use file_reader::{Calls, HEADER, names_layout};
 use plan::Table;
@@ -64,8 +64,8 @@ fn put_head(area: &mut [u8], at: usize, letter: u8, len: u16)
     requires { at + 3 ≤ length area.old }
     ensures { area.new ≡ placed area.old at (letter ∷ two len) }
 {
-    put(area, at, &[letter]);
-    put_word(area, at + 1, len);
+    let [high, low] = len.to_be_bytes();
+    put(area, at, &[letter, high, low]);
 }
 
 // Header, table and, where there are some, calls. `rows` is the length of the table's rows.
