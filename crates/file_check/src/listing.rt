@@ -1,17 +1,17 @@
 // What a plan file holds, section by section.
-use crate::words::{InWords, layout_words};
 use plan::Table;
-use planfile::{Calls, Reader, Section, Settings};
+use planfile::{Calls, LayoutKind, Reader, Section, Settings};
 use std::fmt;
 
 // Bytes of a note on a line.
 const NOTE_LINE: usize = 64;
 
-// A file that was accepted, and the settings that it begins with.
+// A file that was accepted, the settings that it begins with, and the layout that these name.
 #[derive(Clone, Copy)]
 pub struct Listing<'a> {
     pub file: &'a [u8],
     pub settings: Settings,
+    pub layout: LayoutKind,
 }
 
 // Bytes as text, with a point for each that is not printable ASCII.
@@ -35,11 +35,7 @@ impl fmt::Display for Listing<'_> {
         heading(self, f)?;
         let mut table = Table::new();
         let mut reader = Reader::new(self.file);
-        // Each section has bytes of its own, and so has each call below: there are no more of them than bytes.
-        for _ in 0..self.file.len() {
-            let Ok(Some(section)) = reader.next(&mut table) else {
-                break;
-            };
+        while let Ok(Some(section)) = reader.next(&mut table) {
             lines_of(section, &table, f)?;
         }
         Ok(())
@@ -51,7 +47,7 @@ fn heading<W: fmt::Write>(listing: &Listing<'_>, f: &mut fmt::Formatter<W>) -> f
     let processors = listing.settings.processors;
     let delta = listing.settings.delta;
     let letter = char::from(listing.settings.letter);
-    let layout = layout_words(listing.settings.letter);
+    let layout = listing.layout;
     writeln!(f, "plan file of {len} bytes")?;
     writeln!(
         f,
@@ -64,11 +60,7 @@ fn lines_of<W: fmt::Write>(
     table: &Table,
     f: &mut fmt::Formatter<W>,
 ) -> fmt::Result {
-    let kind = match section {
-        Section::Table { body: _, at: _ } => "table",
-        Section::Calls { body: _, at: _ } => "calls",
-        Section::Note { body: _, at: _ } => "note",
-    };
+    let kind = section.kind();
     let letter = char::from(section.letter());
     let at = section.place();
     let len = section.body().len();
@@ -86,29 +78,23 @@ fn lines_of<W: fmt::Write>(
 }
 
 fn rows<W: fmt::Write>(table: &Table, f: &mut fmt::Formatter<W>) -> fmt::Result {
-    if table.count() == 0 {
+    if table.rows().is_empty() {
         return writeln!(f, "  no rows");
     }
     writeln!(f, "   row   budget   period  name")?;
-    for number in 0..table.count() {
-        if let Some(row) = table.row(number) {
-            let budget = row.budget();
-            let period = row.period();
-            let name = row.name();
-            let name = Text(name.as_bytes());
-            writeln!(f, "  {number:>4}  {budget:>7}  {period:>7}  {name}")?;
-        }
+    for (number, row) in table.rows().iter().enumerate() {
+        let budget = row.budget();
+        let period = row.period();
+        let name = row.name();
+        writeln!(f, "  {number:>4}  {budget:>7}  {period:>7}  {name}")?;
     }
     Ok(())
 }
 
 fn calls<W: fmt::Write>(bytes: &[u8], f: &mut fmt::Formatter<W>) -> fmt::Result {
     let mut calls = Calls::new(bytes);
-    for _ in 0..bytes.len() {
-        let Ok(Some(call)) = calls.next() else {
-            break;
-        };
-        writeln!(f, "  {}", InWords(call))?;
+    while let Ok(Some(call)) = calls.next() {
+        writeln!(f, "  {call}")?;
     }
     Ok(())
 }

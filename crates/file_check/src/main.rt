@@ -2,14 +2,14 @@
 #![tactic(auto)]
 
 mod listing;
-mod words;
+mod refused;
 
 use listing::Listing;
 use plan::Table;
-use planfile::{Contents, read, write};
+use planfile::{Contents, LayoutKind, read, write};
+use refused::Refused;
 use std::io::Read;
 use std::process::ExitCode;
-use words::Refused;
 
 // The longest file that is read.
 const MOST_BYTES: usize = 60_000;
@@ -49,11 +49,13 @@ fn run(rt: &HostRuntime) -> anyhow::Result<bool> {
     match read(&file, &mut table) {
         Ok(contents) => {
             let settings = contents.settings;
+            let layout = LayoutKind::try_from(settings.letter)?;
             println!(rt;
                 "{}",
                 Listing {
                     file: &file,
-                    settings
+                    settings,
+                    layout
                 }
             )?;
             write_back(rt, &file, &table, contents)

@@ -2,6 +2,13 @@
 use Rattle.std.specs.Prelude.{List, ℕ}
 use Rattle.file_parts.specs.declared.section.Section.{Section}
 use Rattle.file_parts.specs.declared.section.Section.TheVariants.{Table, Calls, Note}
+use Rattle.file_parts.specs.declared.section_kind.SectionKind.{SectionKind}
+use Rattle.file_parts.specs.declared.section_kind.SectionKind.TheVariants as kind
+
+abbrev pub kind_of : Section → SectionKind
+kind_of (Table body at) = kind.Table
+kind_of (Calls body at) = kind.Calls
+kind_of (Note body at) = kind.Note
 
 abbrev pub letter_of : Section → ℕ
 letter_of (Table body at) = 84

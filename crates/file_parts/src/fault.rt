@@ -1,9 +1,13 @@
 // What is wrong with a plan file.
-ghost use Rattle.std.specs.Prelude.{◌≡◌};
+ghost use Rattle.std.specs.Prelude.{◌≡◌, Some};
 ghost use Rattle.file_parts.specs.Numbers.{number_of, place_of, names_row};
+ghost use Rattle.file_parts.specs.Words.{fault_words};
+
+use std::error::Error;
+use std::fmt;
 
 // Each case has its place: a byte of the file, counted from 0, or a row of the table.
-#[derive(Clone, Copy)]
+#[derive(Clone, Copy, Debug, PartialEq, Eq)]
 pub enum Fault {
     // The file does not begin with NPF.
     Mark,
@@ -82,3 +86,28 @@ impl Fault {
         }
     }
 }
+
+// What is wrong, in words; number and place are told apart from them.
+impl fmt::Display for Fault {
+    ghost output = { λ fault. Some (fault_words fault) };
+
+    fn fmt<W: fmt::Write>(&self, f: &mut fmt::Formatter<W>) -> fmt::Result {
+        f.write_str(match self {
+            Fault::Mark => "the file does not begin with NPF",
+            Fault::Version => "the version is not 1",
+            Fault::ShortFile { len: _ } => "the file ends too early, or has no table",
+            Fault::Letter { at: _ } => "no layout, section or call has this letter",
+            Fault::Order { at: _ } => "this section may not stand here",
+            Fault::Name { at: _ } => "a name is not 1 to 16 bytes of printable ASCII",
+            Fault::Cut { end: _ } => "the section ends inside a row or a call",
+            Fault::NoCalls { at: _ } => "the section of calls has none",
+            Fault::NoTicks { at: _ } => "a call for 0 ticks",
+            Fault::ZeroBudget { row: _ } => "the budget is 0",
+            Fault::PeriodTooLong { row: _ } => "the period is above 1000000",
+            Fault::BudgetOverPeriod { row: _ } => "the budget is above the period",
+            Fault::TooManyRows { row: _ } => "the table has 64 rows already",
+        })
+    }
+}
+
+impl Error for Fault {}

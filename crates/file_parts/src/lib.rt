@@ -6,6 +6,7 @@ pub mod due;
 pub mod fault;
 pub mod not_written;
 pub mod section;
+pub mod section_kind;
 pub mod settings;
 
 pub use call::Call;
@@ -13,4 +14,5 @@ pub use due::Due;
 pub use fault::Fault;
 pub use not_written::NotWritten;
 pub use section::{HEAD, Section};
+pub use section_kind::{SectionKind, UnknownLetter};
 pub use settings::Settings;

@@ -1,6 +1,8 @@
 // The sections of a plan file.
 ghost use Rattle.std.specs.Prelude.{◌≡◌, ◌+◌, ◌-◌, ◌^◌, min};
-ghost use Rattle.file_parts.specs.Sections.{letter_of, body_of, letter_place};
+ghost use Rattle.file_parts.specs.Sections.{letter_of, body_of, letter_place, kind_of};
+
+use crate::section_kind::SectionKind;
 
 // By its kind: the bytes of its body, lent from the file, and the place of its letter.
 #[derive(Clone, Copy)]
@@ -14,14 +16,20 @@ pub enum Section<'a> {
 pub const HEAD: usize = 3;
 
 impl<'a> Section<'a> {
+    pub fn kind(&self) -> SectionKind
+        ensures { result ≡ kind_of self.now }
+    {
+        match self {
+            Section::Table { body: _, at: _ } => SectionKind::Table,
+            Section::Calls { body: _, at: _ } => SectionKind::Calls,
+            Section::Note { body: _, at: _ } => SectionKind::Note,
+        }
+    }
+
     pub fn letter(&self) -> u8
         ensures { result ≡ letter_of self.now }
     {
-        match self {
-            Section::Table { body: _, at: _ } => b'T',
-            Section::Calls { body: _, at: _ } => b'C',
-            Section::Note { body: _, at: _ } => b'N',
-        }
+        self.kind().letter()
     }
 
     pub fn body(&self) -> &'a [u8]

@@ -1,7 +1,7 @@
 // What a plan file's header sets.
 
 // Any byte serves for processors and delta: what is wrong with them is for the plan's verdict to say. The letter is the layout's.
-#[derive(Clone, Copy)]
+#[derive(Clone, Copy, Debug, PartialEq, Eq)]
 pub struct Settings {
     pub processors: u8,
     pub delta: u8,

@@ -1,8 +1,9 @@
 -- A row read from a part of a file, and the row that stands in the file.
-use Rattle.std.proofs.Common.{◌≡◌, ℕ, ◌+◌, ◌-◌, ◌*◌, ◌<◌, ◌≤◌, Bool, true, false, cond, ltb, ◌⊎◌, List, length, get_or, take, drop, Some, sym, ap, ◌∙◌, inl, inr, ⊎_elim, arith}
+use Rattle.std.proofs.Common.{◌≡◌, ℕ, ◌+◌, ◌-◌, ◌*◌, ◌<◌, ◌≤◌, Bool, true, false, cond, ltb, ◌⊎◌, List, length, get_or, take, drop, Some, None, sym, ap, ◌∙◌, inl, inr, ⊎_elim, arith}
 use Rattle.std.proofs.lemmas.List.{length-take-le, length-drop, get_or-take, get_or-drop, take-take, drop-drop, drop-take}
 use Rattle.std.proofs.lemmas.Bool.{cases_Bool, cases_lt, lt-ltb, le-ltb, cond-true, cond-false}
 use Rattle.file_reader.specs.declared.rows.RowRead.{RowRead}
+use Rattle.file_reader.specs.declared.rows.RowFault.TheVariants as form
 use Rattle.file_parts.specs.declared.fault.Fault.TheVariants.{Name, Cut}
 use Rattle.file_reader.specs.Bytes.{word_at, long_at, Stands}
 use Rattle.file_reader.specs.Faults.{name_length, task_at, refused, row_told, row_fault}
@@ -47,9 +48,9 @@ module _ (f : List ℕ) (p e : ℕ) (h : p ≤ e) (w : e ≤ length f) where
 
   -- what a row read from the part is in the file
   pub data Seen : Type 0 where
-    cut : row_read (part f p e) ≡ failed 16 → ((k : ℕ) → row_fault f p e k ≡ Some (Cut e)) → Seen
-    misnamed : row_read (part f p e) ≡ failed 15 → ((k : ℕ) → row_fault f p e k ≡ Some (Name (p + 8))) → Seen
-    whole : p + 9 + get_or f (p + 8) 0 ≤ e → row_read (part f p e) ≡ record { budget = long_at f p; period = long_at f (p + 4); name_at = 9; name_len = get_or f (p + 8) 0; fault = 0 } → row_used (part f p e) ≡ 9 + get_or f (p + 8) 0 → task_at (part f p e) 0 ≡ task_at f p → ((k : ℕ) → row_fault f p e k ≡ row_told (p + 8) k (refused (task_at f p) k)) → Seen
+    cut : row_read (part f p e) ≡ failed form.Cut → ((k : ℕ) → row_fault f p e k ≡ Some (Cut e)) → Seen
+    misnamed : row_read (part f p e) ≡ failed form.Name → ((k : ℕ) → row_fault f p e k ≡ Some (Name (p + 8))) → Seen
+    whole : p + 9 + get_or f (p + 8) 0 ≤ e → row_read (part f p e) ≡ record { budget = long_at f p; period = long_at f (p + 4); name_at = 9; name_len = get_or f (p + 8) 0; fault = None } → row_used (part f p e) ≡ 9 + get_or f (p + 8) 0 → task_at (part f p e) 0 ≡ task_at f p → ((k : ℕ) → row_fault f p e k ≡ row_told (p + 8) k (refused (task_at f p) k)) → Seen
 
   module _ (l : p + 9 ≤ e) where
     at_length : get_or (part f p e) 8 0 ≡ get_or f (p + 8) 0
@@ -69,7 +70,7 @@ module _ (f : List ℕ) (p e : ℕ) (h : p ≤ e) (w : e ≤ length f) where
             ∙ take-take (get_or f (p + 8) 0) (e - p - 9) (drop 9 (drop p f)) (omega arith)
             ∙ ap (take (get_or f (p + 8) 0)) (drop-drop 9 p f)
 
-    same_read : ◌≡◌ {A = RowRead} (record { budget = long_at (part f p e) 0; period = long_at (part f p e) 4; name_at = 9; name_len = get_or (part f p e) 8 0; fault = 0 }) (record { budget = long_at f p; period = long_at f (p + 4); name_at = 9; name_len = get_or f (p + 8) 0; fault = 0 })
+    same_read : ◌≡◌ {A = RowRead} (record { budget = long_at (part f p e) 0; period = long_at (part f p e) 4; name_at = 9; name_len = get_or (part f p e) 8 0; fault = None }) (record { budget = long_at f p; period = long_at f (p + 4); name_at = 9; name_len = get_or f (p + 8) 0; fault = None })
     same_read =
         let b : long_at (part f p e) 0 ≡ long_at f p = part_long 0 (omega arith) ∙ ap (λ k. long_at f k) (omega arith) in
         let d : long_at (part f p e) 4 ≡ long_at f (p + 4) = part_long 4 (omega arith) in
@@ -79,17 +80,17 @@ module _ (f : List ℕ) (p e : ℕ) (h : p ≤ e) (w : e ≤ length f) where
     module _ (a : ltb e (p + 9) ≡ false) (a' : ltb (length (part f p e)) 9 ≡ false) where
       seen_name : (name_length (get_or f (p + 8) 0) ≡ true) ⊎ (name_length (get_or f (p + 8) 0) ≡ false) → Seen
       seen_name (inr bad) =
-          misnamed (is_bad (ltb (length (part f p e)) 9) (name_length (get_or (part f p e) 8 0)) (ltb (length (part f p e)) (9 + get_or (part f p e) 8 0)) (failed 16) (failed 15) _ a' (ap name_length at_length ∙ bad))
+          misnamed (is_bad (ltb (length (part f p e)) 9) (name_length (get_or (part f p e) 8 0)) (ltb (length (part f p e)) (9 + get_or (part f p e) 8 0)) (failed form.Cut) (failed form.Name) _ a' (ap name_length at_length ∙ bad))
           (λ k. is_bad (ltb e (p + 9)) (name_length (get_or f (p + 8) 0)) (ltb e (p + 9 + get_or f (p + 8) 0)) (Some (Cut e)) (Some (Name (p + 8))) (row_told (p + 8) k (refused (task_at f p) k)) a bad)
       seen_name (inl good) = ⊎_elim
           (λ (c : e < p + 9 + get_or f (p + 8) 0).
-          cut (is_name_cut (ltb (length (part f p e)) 9) (name_length (get_or (part f p e) 8 0)) (ltb (length (part f p e)) (9 + get_or (part f p e) 8 0)) (failed 16) (failed 15) _ a' (ap name_length at_length ∙ good) (lt-ltb (length (part f p e)) (9 + get_or (part f p e) 8 0) (omega (arith, part_length, at_length, c))))
+          cut (is_name_cut (ltb (length (part f p e)) 9) (name_length (get_or (part f p e) 8 0)) (ltb (length (part f p e)) (9 + get_or (part f p e) 8 0)) (failed form.Cut) (failed form.Name) _ a' (ap name_length at_length ∙ good) (lt-ltb (length (part f p e)) (9 + get_or (part f p e) 8 0) (omega (arith, part_length, at_length, c))))
           (λ k. is_name_cut (ltb e (p + 9)) (name_length (get_or f (p + 8) 0)) (ltb e (p + 9 + get_or f (p + 8) 0)) (Some (Cut e)) (Some (Name (p + 8))) (row_told (p + 8) k (refused (task_at f p) k)) a good (lt-ltb e (p + 9 + get_or f (p + 8) 0) c)))
           (λ (c : p + 9 + get_or f (p + 8) 0 ≤ e).
           let room : ltb (length (part f p e)) (9 + get_or (part f p e) 8 0) ≡ false = le-ltb (length (part f p e)) (9 + get_or (part f p e) 8 0) (omega (arith, part_length, at_length, c)) in
           let named : name_length (get_or (part f p e) 8 0) ≡ true = ap name_length at_length ∙ good in
           whole c
-          (is_good (ltb (length (part f p e)) 9) (name_length (get_or (part f p e) 8 0)) (ltb (length (part f p e)) (9 + get_or (part f p e) 8 0)) (failed 16) (failed 15) (record { budget = long_at (part f p e) 0; period = long_at (part f p e) 4; name_at = 9; name_len = get_or (part f p e) 8 0; fault = 0 }) a' named room ∙ same_read)
+          (is_good (ltb (length (part f p e)) 9) (name_length (get_or (part f p e) 8 0)) (ltb (length (part f p e)) (9 + get_or (part f p e) 8 0)) (failed form.Cut) (failed form.Name) (record { budget = long_at (part f p e) 0; period = long_at (part f p e) 4; name_at = 9; name_len = get_or (part f p e) 8 0; fault = None }) a' named room ∙ same_read)
           (is_good (ltb (length (part f p e)) 9) (name_length (get_or (part f p e) 8 0)) (ltb (length (part f p e)) (9 + get_or (part f p e) 8 0)) 0 0 (9 + get_or (part f p e) 8 0) a' named room ∙ ap (λ x. 9 + x) at_length)
           (same_task c)
           (λ k. is_good (ltb e (p + 9)) (name_length (get_or f (p + 8) 0)) (ltb e (p + 9 + get_or f (p + 8) 0)) (Some (Cut e)) (Some (Name (p + 8))) (row_told (p + 8) k (refused (task_at f p) k)) a good (le-ltb e (p + 9 + get_or f (p + 8) 0) c)))

@@ -3,6 +3,7 @@ pub mod Bytes
 pub mod CallLists
 pub mod Faults
 pub mod Grammar
+pub mod LayoutKinds
 pub mod Meaning
 pub mod Readers
 pub mod RowReads

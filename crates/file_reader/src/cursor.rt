@@ -1,12 +1,12 @@
 // Where a reader stands, and where it ends.
-ghost use Rattle.std.specs.Prelude.{◌≡◌, ℕ, ◌+◌, ◌^◌, ◌<◌, ◌≤◌, length, Some, None, Ok, Err};
+ghost use Rattle.std.specs.Prelude.{◌≡◌, ℕ, ◌+◌, ◌^◌, ◌<◌, ◌≤◌, length, Some, None, MatchResult};
 ghost use Rattle.file_reader.specs.Bytes.{two, word_at, Stands};
 ghost use Rattle.file_reader.specs.Grammar.{call_bytes, Counts};
 ghost use Rattle.plan.specs.Views.{tasks};
 ghost use Rattle.file_reader.specs.Faults.{call_fault, row_told, row_fault};
 ghost use Rattle.file_reader.specs.Steps.{RowTaken};
 
-use crate::rows::row;
+use crate::rows::{RowFault, row};
 use file_parts::{Call, Fault};
 use plan::{RowRefusal, Table};
 
@@ -32,7 +32,11 @@ impl Cursor {
         requires inside { self.old.limit ≤ length file.now }
         ensures limit { self.new.limit ≡ self.old.limit }
         ensures within { self.new.pos ≤ self.old.limit }
-        ensures read { elim result [ Ok c ↦ (call_fault file.now self.old.pos self.old.limit ≡ None) × (Stands file.now self.old.pos (call_bytes c)) × (Counts c) × (self.new.pos ≡ self.old.pos + length (call_bytes c)) | Err e ↦ (call_fault file.now self.old.pos self.old.limit ≡ Some e) × (self.new.pos ≡ self.old.pos) ] }
+        ensures read { MatchResult result
+            (λ c. (call_fault file.now self.old.pos self.old.limit ≡ None)
+            × (Stands file.now self.old.pos (call_bytes c)) × (Counts c)
+            × (self.new.pos ≡ self.old.pos + length (call_bytes c)))
+            (λ e. (call_fault file.now self.old.pos self.old.limit ≡ Some e) × (self.new.pos ≡ self.old.pos)) }
     {
         let at = self.pos;
         let end = self.limit;
@@ -90,17 +94,19 @@ impl Cursor {
         requires inside { self.old.limit ≤ length file.now }
         ensures limit { self.new.limit ≡ self.old.limit }
         ensures within { self.new.pos ≤ self.old.limit }
-        ensures read { elim result [ Ok u ↦ RowTaken file.now self.old.pos (tasks table.old) self.new.pos (tasks table.new) | Err e ↦ (row_fault file.now self.old.pos self.old.limit (length (tasks table.old)) ≡ Some e) × (self.new.pos ≡ self.old.pos) ] }
+        ensures read { MatchResult result
+            (λ _. RowTaken file.now self.old.pos (tasks table.old) self.new.pos (tasks table.new))
+            (λ e. (row_fault file.now self.old.pos self.old.limit (length (tasks table.old)) ≡ Some e)
+            × (self.new.pos ≡ self.old.pos)) }
     {
         let at = self.pos;
         let end = self.limit;
         let number = table.count() as usize;
         let (read, rest) = row(&file[at..end]);
-        if read.fault == 15 {
-            return Err(Fault::Name { at: at + 8 });
-        }
-        if read.fault != 0 {
-            return Err(Fault::Cut { end });
+        match read.fault {
+            Some(RowFault::Name) => return Err(Fault::Name { at: at + 8 }),
+            Some(RowFault::Cut) => return Err(Fault::Cut { end }),
+            None => {}
         }
         let name_at = at + read.name_at;
         match table.add(

@@ -1,5 +1,5 @@
 // The header of a plan file.
-ghost use Rattle.std.specs.Prelude.{◌≡◌, true, Some, None, Ok, Err};
+ghost use Rattle.std.specs.Prelude.{◌≡◌, true, Some, None, MatchResult};
 ghost use Rattle.file_reader.specs.Bytes.{Stands};
 ghost use Rattle.file_reader.specs.Grammar.{layout_letter, header};
 ghost use Rattle.file_reader.specs.Faults.{header_fault};
@@ -12,7 +12,9 @@ pub const HEADER: usize = 8;
 
 // The settings that a file begins with.
 pub fn header(file: &[u8]) -> Result<Settings, Fault>
-    ensures { elim result [ Ok s ↦ (header_fault file.now ≡ None) × (Stands file.now 0 (header s)) × (layout_letter s.letter ≡ true) | Err e ↦ header_fault file.now ≡ Some e ] }
+    ensures { MatchResult result
+        (λ s. (header_fault file.now ≡ None) × (Stands file.now 0 (header s)) × (layout_letter s.letter ≡ true))
+        (λ e. header_fault file.now ≡ Some e) }
 {
     let len = file.len();
     match file {

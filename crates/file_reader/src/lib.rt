@@ -4,6 +4,7 @@
 pub mod calls;
 mod cursor;
 pub mod heading;
+pub mod layout_kind;
 pub mod letters;
 pub mod reader;
 pub mod reading;
@@ -11,7 +12,8 @@ pub mod rows;
 
 pub use calls::Calls;
 pub use heading::{HEADER, header};
+pub use layout_kind::LayoutKind;
 pub use letters::names_layout;
 pub use reader::Reader;
 pub use reading::{Contents, read};
-pub use rows::{RowRead, row};
+pub use rows::{RowFault, RowRead, row};

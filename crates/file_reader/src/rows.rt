@@ -1,36 +1,44 @@
 // Rows of a table section.
-ghost use Rattle.std.specs.Prelude.{◌≡◌, ◌+◌, ◌≤◌, length, drop};
+ghost use Rattle.std.specs.Prelude.{◌≡◌, ◌+◌, ◌≤◌, length, drop, Some, None};
 ghost use Rattle.file_reader.specs.Bytes.{four, long_at, Stands};
 ghost use Rattle.file_reader.specs.Grammar.{row_bytes};
 ghost use Rattle.file_reader.specs.Faults.{task_at};
-ghost use Rattle.file_reader.specs.RowReads.{row_read, row_used};
+ghost use Rattle.file_reader.specs.RowReads.{failed, row_read, row_used};
 
-use crate::cursor::word;
 use plan::name::NAME_BYTES;
 
 // A row's numbers come first, then the length of its name.
 const NUMBERS: usize = 9;
 
-// A row as its bytes tell it: its numbers, where its name stands among them, and 0; or what is wrong with its form, 15 or 16, and zeros.
-#[derive(Clone, Copy)]
+// What is wrong with a row's form.
+#[derive(Clone, Copy, Debug, PartialEq, Eq)]
+pub enum RowFault {
+    // The length of its name.
+    Name,
+    // The bytes end inside it.
+    Cut,
+}
+
+// A row as its bytes tell it: its numbers, and where its name stands among them; or what is wrong with its form, and zeros.
+#[derive(Clone, Copy, Debug, PartialEq, Eq)]
 pub struct RowRead {
     pub budget: u32,
     pub period: u32,
     pub name_at: usize,
     pub name_len: usize,
-    pub fault: u8,
+    pub fault: Option<RowFault>,
 }
 
 impl RowRead {
-    fn failed(fault: u8) -> RowRead
-        ensures { result ≡ record { budget = 0; period = 0; name_at = 0; name_len = 0; fault = fault } }
+    fn failed(fault: RowFault) -> RowRead
+        ensures { result ≡ failed fault }
     {
         RowRead {
             budget: 0,
             period: 0,
             name_at: 0,
             name_len: 0,
-            fault,
+            fault: Some(fault),
         }
     }
 }
@@ -41,31 +49,31 @@ fn long(bytes: &[u8], at: usize) -> u32
     ensures is { result ≡ long_at bytes.now at }
     ensures stands { Stands bytes.now at (four result) }
 {
-    word(bytes, at) as u32 * 65536 + word(bytes, at + 2) as u32
+    u32::from_be_bytes([bytes[at], bytes[at + 1], bytes[at + 2], bytes[at + 3]])
 }
 
 // The row that these bytes begin with, and the bytes that follow it; all of them follow a row that is at fault.
 pub fn row(bytes: &[u8]) -> (RowRead, &[u8])
     ensures is { result.0 ≡ row_read bytes.now }
     ensures rest { result.1.now ≡ drop (row_used bytes.now) bytes.now }
-    ensures spelled { result.0.fault ≡ 0 → Stands bytes.now 0 (row_bytes (task_at bytes.now 0)) }
+    ensures spelled { result.0.fault ≡ None → Stands bytes.now 0 (row_bytes (task_at bytes.now 0)) }
 {
     if bytes.len() < NUMBERS {
-        return (RowRead::failed(16), bytes);
+        return (RowRead::failed(RowFault::Cut), bytes);
     }
     let name_len = bytes[NUMBERS - 1] as usize;
     if name_len == 0 || name_len > NAME_BYTES {
-        return (RowRead::failed(15), bytes);
+        return (RowRead::failed(RowFault::Name), bytes);
     }
     if bytes.len() - NUMBERS < name_len {
-        return (RowRead::failed(16), bytes);
+        return (RowRead::failed(RowFault::Cut), bytes);
     }
     let read = RowRead {
         budget: long(bytes, 0),
         period: long(bytes, 4),
         name_at: NUMBERS,
         name_len,
-        fault: 0,
+        fault: None,
     };
     (read, &bytes[NUMBERS + name_len..])
 }

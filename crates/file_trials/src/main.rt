@@ -31,13 +31,19 @@ fn written(heap: Global, table: &Table, words: &str) -> anyhow::Result<Option<An
 fn cut(heap: Global, words: &str) -> anyhow::Result<Option<Answer>> {
     let (from, words) = word(words);
     let file = bytes_of(heap, words)?;
-    for len in from.parse()?..file.len() {
-        match reading(&file[0..len]) {
-            Some(Answer { number: 12, place }) if place == len => {}
-            _ => return Ok(None),
-        }
-    }
-    Ok(reading(&file))
+    let from: usize = from.parse()?;
+    let short = |len| {
+        let cut = Answer {
+            number: 12,
+            place: len,
+        };
+        reading(&file[0..len]) == Some(cut)
+    };
+    Ok(if (from..file.len()).all(short) {
+        reading(&file)
+    } else {
+        None
+    })
 }
 
 // `KIND WORDS`.
@@ -57,27 +63,24 @@ fn tells(heap: Global, line: &str) -> anyhow::Result<bool> {
     let (place, trial) = word(rest);
     let number: u8 = number.parse()?;
     let place: usize = place.parse()?;
-    Ok(match answer(heap, trial)? {
-        Some(answer) => answer.number == number && answer.place == place,
-        None => false,
-    })
+    Ok(answer(heap, trial)? == Some(Answer { number, place }))
+}
+
+fn is_trial(line: &&str) -> bool {
+    !line.starts_with('#')
 }
 
 // Prints the lines that do not tell the answer; whether there are none.
 fn hold(rt: &HostRuntime, text: &str) -> anyhow::Result<bool> {
-    let mut lines = 0usize;
     let mut good = true;
-    for line in text.lines() {
-        if line.starts_with('#') {
-            continue;
-        }
-        lines = lines.saturating_add(1);
+    for line in text.lines().filter(is_trial) {
         if !tells(rt.alloc(), line)? {
             good = false;
             println!(rt; "not so: {line}")?;
         }
     }
-    println!(rt; "{lines} trials")?;
+    let trials = text.lines().filter(is_trial).count();
+    println!(rt; "{trials} trials")?;
     Ok(good)
 }
 

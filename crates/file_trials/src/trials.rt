@@ -6,8 +6,8 @@ use std::alloc::{AllocError, Global};
 // What stands in an area before anything is written there.
 const BLANK: u8 = 0xEE;
 
-// A refusal's number and place. For a file that is read 0 and 0, for one that is written 0 and its length.
-#[derive(Clone, Copy)]
+// As a line of the table tells it: a refusal's number and place. For a file that is read 0 and 0, for one that is written 0 and its length.
+#[derive(Clone, Copy, Debug, PartialEq, Eq)]
 pub struct Answer {
     pub number: u8,
     pub place: usize,
@@ -35,15 +35,6 @@ pub(crate) fn reading(file: &[u8]) -> Option<Answer> {
     }
 }
 
-fn is_blank(area: &[u8]) -> bool {
-    for byte in area {
-        if *byte != BLANK {
-            return false;
-        }
-    }
-    true
-}
-
 // Whether a file has these calls, and is written back byte for byte.
 fn comes_back(heap: Global, file: &[u8], calls: &[u8]) -> Result<bool, AllocError> {
     let mut table = Table::new();
@@ -69,29 +60,22 @@ pub(crate) fn writing(
         letter,
     };
     let mut area = vec![in heap; BLANK; room]?;
-    let (answer, len) = match write(table, settings, calls, &mut area) {
-        Ok(len) => (
-            Answer {
-                number: 0,
-                place: len,
-            },
-            len,
-        ),
-        Err(refusal) => (
-            Answer {
-                number: refusal.number(),
-                place: refusal.place(),
-            },
-            0,
-        ),
-    };
-    let Some((file, rest)) = area.split_at_checked(len) else {
+    let written = write(table, settings, calls, &mut area);
+    let Some((file, rest)) = area.split_at_checked(written.unwrap_or(0)) else {
         return Ok(None);
     };
-    let good = answer.number != 0 || comes_back(heap, file, calls)?;
-    Ok(if good && is_blank(rest) {
-        Some(answer)
-    } else {
-        None
-    })
+    let good = written.is_err() || comes_back(heap, file, calls)?;
+    if !good || rest.iter().any(|byte| *byte != BLANK) {
+        return Ok(None);
+    }
+    Ok(Some(match written {
+        Ok(len) => Answer {
+            number: 0,
+            place: len,
+        },
+        Err(refusal) => Answer {
+            number: refusal.number(),
+            place: refusal.place(),
+        },
+    }))
 }

@@ -1,5 +1,6 @@
 -- How long a line can be.
-use Rattle.std.proofs.Common.{◌≡◌, ℕ, ◌+◌, ◌*◌, ◌^◌, ◌<◌, ◌≤◌, true, false, cond, eqb, List, [], ◌∷◌, ◌++◌, length, codes, arith}
+use Rattle.std.proofs.Common.{◌≡◌, ℕ, ◌+◌, ◌*◌, ◌^◌, ◌<◌, ◌≤◌, List, [], ◌∷◌, ◌++◌, length, Some, None, Option, refl, arith}
+use Rattle.std.specs.Option.{ForSome}
 use Rattle.std.specs.List.{flat_map}
 use Rattle.std.proofs.lemmas.List.{length-append}
 use Rattle.line_text.specs.declared.line.Asked.{Asked}
@@ -16,7 +17,7 @@ Typed (Plan slot bins) = (slot < 2 ^ 32) × (bins < 2 ^ 8)
 Typed (Bin bin load reserve) = (bin < 2 ^ 8) × (load < 2 ^ 32) × (reserve < 2 ^ 32)
 Typed (Tick clock row) = (clock < 2 ^ 32) × (length (flat_map entry row.now) ≤ 4 * length row.now)
 Typed (TickRefused n) = n < 2 ^ 8
-Typed (Answer asked task n) = (task < 2 ^ 8) × (n < 2 ^ 8)
+Typed (Answer asked task refusal) = (task < 2 ^ 8) × ForSome refusal (λ n. n < 2 ^ 8)
 Typed (End clock) = clock < 2 ^ 32
 Typed (FileRefused n at) = (n < 2 ^ 8) × (at < 2 ^ 64)
 Typed (RowRefused n row) = (n < 2 ^ 8) × (row < 2 ^ 64)
@@ -41,8 +42,9 @@ called_short : (a : Asked) (task : ℕ) → task < 2 ^ 8 → length (called a ta
 called_short Request task h = omega (arith, byte task h)
 called_short Done task h = omega (arith, byte task h)
 
-answered_short : (n : ℕ) → n < 2 ^ 8 → length (answered n) ≤ 12
-answered_short n h = elim (eqb n 0) as (λ ok. length (cond ok (codes " ok") (field " refused " n)) ≤ 12) [ true ↦ omega arith | false ↦ omega (arith, byte n h) ]
+answered_short : (refusal : Option ℕ) → ForSome refusal (λ n. n < 2 ^ 8) → length (answered refusal) ≤ 12
+answered_short None h = omega arith
+answered_short (Some n) h = omega (arith, byte n (h n refl))
 
 -- the longest has `tick `, ten digits, 16 entries of four bytes and the end
 pub short : (l : Line) → Typed l → Short 80 l
@@ -51,7 +53,7 @@ short (Bin bin load reserve) t h =
     omega (arith, length-append (field "bin " bin) (ended (field " load " load ∷ field " reserve " reserve ∷ [])), two_long (field " load " load) (field " reserve " reserve), byte bin t.0, word load t.1, word reserve t.2)
 short (Tick clock row) t h = omega (arith, two_long (field "tick " clock) (flat_map entry row.now), word clock t.0, t.1)
 short (TickRefused n) t h = omega (arith, one_long (field "tick refused " n), byte n t)
-short (Answer asked task n) t h = omega (arith, two_long (called asked task) (answered n), called_short asked task t.0, answered_short n t.1)
+short (Answer asked task refusal) t h = omega (arith, two_long (called asked task) (answered refusal), called_short asked task t.0, answered_short refusal t.1)
 short (End clock) t h = omega (arith, one_long (field "end " clock), word clock t)
 short (FileRefused n at) t h = omega (arith, two_long (field "refused " n) (field " at " at), byte n t.0, place at t.1)
 short (RowRefused n row) t h = omega (arith, two_long (field "refused " n) (field " at row " row), byte n t.0, place row t.1)

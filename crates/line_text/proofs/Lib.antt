@@ -2,5 +2,4 @@ pub mod Entries
 pub mod Lawful
 pub mod Lengths
 pub mod Pieced
-pub mod Placing
 pub mod Spelled

@@ -1,5 +1,5 @@
 -- The lines of a listing, by their bytes.
-use Rattle.std.specs.Prelude.{ℕ, ◌≤◌, cond, List, [], ◌∷◌, ◌++◌, length, codes, ◌==◌}
+use Rattle.std.specs.Prelude.{ℕ, ◌≤◌, cond, List, [], ◌∷◌, ◌++◌, length, codes, Some, None, Option, ◌==◌}
 use Prim.Native.String.{String}
 use Rattle.std.specs.List.{flat_map}
 use Rattle.line_text.specs.declared.line.Asked.{Asked}
@@ -20,8 +20,9 @@ abbrev pub called : Asked → ℕ → List ℕ
 called Request task = field "request " task
 called Done task = field "done " task
 
-abbrev pub answered : ℕ → List ℕ
-answered n = cond (n == 0) (codes " ok") (field " refused " n)
+abbrev pub answered : Option ℕ → List ℕ
+answered None = codes " ok"
+answered (Some n) = field " refused " n
 
 -- one piece after the other, and the byte that ends a line
 abbrev pub ended : List (List ℕ) → List ℕ
@@ -33,7 +34,7 @@ text (Plan slot bins) = ended (field "slot " slot ∷ field " bins " bins ∷ []
 text (Bin bin load reserve) = ended (field "bin " bin ∷ field " load " load ∷ field " reserve " reserve ∷ [])
 text (Tick clock row) = ended (field "tick " clock ∷ flat_map entry row.now ∷ [])
 text (TickRefused n) = ended (field "tick refused " n ∷ [])
-text (Answer asked task n) = ended (called asked task ∷ answered n ∷ [])
+text (Answer asked task refusal) = ended (called asked task ∷ answered refusal ∷ [])
 text (End clock) = ended (field "end " clock ∷ [])
 text (FileRefused n at) = ended (field "refused " n ∷ field " at " at ∷ [])
 text (RowRefused n row) = ended (field "refused " n ∷ field " at row " row ∷ [])
@@ -45,7 +46,7 @@ shown (Plan slot bins) = 0
 shown (Bin bin load reserve) = 0
 shown (Tick clock row) = length row.now
 shown (TickRefused n) = 0
-shown (Answer asked task n) = 0
+shown (Answer asked task refusal) = 0
 shown (End clock) = 0
 shown (FileRefused n at) = 0
 shown (RowRefused n row) = 0

@@ -4,21 +4,21 @@
 pub const IDLE: u8 = 255;
 
 // What was asked of a runner.
-#[derive(Clone, Copy)]
+#[derive(Clone, Copy, PartialEq, Eq, Debug)]
 pub enum Asked {
     Request,
     Done,
 }
 
-#[derive(Clone, Copy)]
+#[derive(Clone, Copy, PartialEq, Eq, Debug)]
 pub enum Line<'a> {
     Plan { slot: u32, bins: u8 },
     Bin { bin: u8, load: u32, reserve: u32 },
     // The clock before the tick, and for each processor the task that it runs or `IDLE`.
     Tick { clock: u32, row: &'a [u8] },
     TickRefused { number: u8 },
-    // The number is 0 where the call was accepted.
-    Answer { asked: Asked, task: u8, number: u8 },
+    // A call that was accepted, or the number of its refusal.
+    Answer { asked: Asked, task: u8, refusal: Option<u8> },
     End { clock: u32 },
     FileRefused { number: u8, at: usize },
     RowRefused { number: u8, row: usize },

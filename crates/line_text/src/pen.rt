@@ -1,8 +1,9 @@
 // Bytes and numbers put into an area, each call from a place on. The answer is the place behind them.
 ghost use Rattle.std.specs.Prelude.{◌≡◌, ◌+◌, ◌≤◌, length};
-ghost use Rattle.line_text.specs.Areas.{placed};
+ghost use Rattle.areas.specs.Areas.{placed};
 ghost use Rattle.line_text.specs.Decimals.{digits};
 
+// planfile has its own: with a requires it cannot be public, so the two crates cannot share one.
 pub(crate) fn put(area: &mut [u8], at: usize, bytes: &[u8]) -> usize
     requires { at + length bytes.now ≤ length area.old }
     ensures next { result ≡ at + length bytes.now }

@@ -38,13 +38,12 @@ fn call<'a>(asked: Asked, task: u8) -> Piece<'a>
     }
 }
 
-fn answer<'a>(number: u8) -> Piece<'a>
-    ensures { piece_text result ≡ answered number }
+fn answer<'a>(refusal: Option<u8>) -> Piece<'a>
+    ensures { piece_text result ≡ answered refusal }
 {
-    if number == 0 {
-        Piece::Word { word: b" ok" }
-    } else {
-        field(b" refused ", number as u64)
+    match refusal {
+        None => Piece::Word { word: b" ok" },
+        Some(number) => field(b" refused ", number as u64),
     }
 }
 
@@ -100,8 +99,8 @@ pub(crate) fn pieces_of<'a>(line: Line<'a>) -> Pieces<'a>
         Line::Answer {
             asked,
             task,
-            number,
-        } => two(call(asked, task), answer(number)),
+            refusal,
+        } => two(call(asked, task), answer(refusal)),
         Line::End { clock } => one(field(b"end ", clock as u64)),
         Line::FileRefused { number, at } => two(
             field(b"refused ", number as u64),

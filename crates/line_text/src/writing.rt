@@ -1,7 +1,8 @@
 // Writing a line.
 ghost use Rattle.std.specs.Prelude.{◌≡◌, ◌+◌, ◌≤◌, length};
 ghost use Rattle.std.specs.List.{flat_map};
-ghost use Rattle.line_text.specs.Areas.{placed, WrittenOrNot};
+ghost use Rattle.areas.specs.Areas.{placed};
+ghost use Rattle.line_text.specs.Areas.{WrittenOrNot};
 ghost use Rattle.line_text.specs.Decimals.{DigitsLaw};
 ghost use Rattle.line_text.specs.Texts.{entry, text, Short};
 ghost use Rattle.line_text.specs.Spellings.{piece_text, spelled};
@@ -15,7 +16,7 @@ use crate::piece::{Piece, Pieces, pieces_of};
 pub const LONGEST_LINE: usize = 80;
 
 // The area is too short for the line.
-#[derive(Clone, Copy)]
+#[derive(Clone, Copy, PartialEq, Eq, Debug)]
 pub struct ShortArea;
 
 impl ShortArea {

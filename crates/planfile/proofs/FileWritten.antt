@@ -5,13 +5,17 @@ use Rattle.std.proofs.lemmas.List.{append_assoc, length-append, take_all}
 use Rattle.std.proofs.lemmas.Bool.{true≢false, ne_eqb, cond-false}
 use Rattle.plan.specs.Rows.{Task}
 use Rattle.file_parts.specs.declared.settings.Settings.{Settings}
-use Rattle.planfile.specs.Areas.{placed}
+use Rattle.planfile.specs.Writing.{SameBytes}
+use Rattle.areas.specs.Areas.{placed}
 use Rattle.file_reader.specs.Bytes.{two}
 use Rattle.file_reader.specs.Grammar.{Taken, layout_letter, section, call_bytes}
 use Rattle.file_reader.specs.Readers.{CallsWhole}
 use Rattle.file_reader.specs.Meaning.{acceptance, Means, calls_section, written}
-use Rattle.file_reader.proofs.RoundTrip.{reads_back}
-use Rattle.planfile.proofs.Placing.{placed_then}
+use Rattle.file_reader.proofs.RoundTrip.{reads_back, written_back}
+use Rattle.areas.proofs.Placing.{placed_then}
+
+pub same_bytes : (h : Settings) (ts : List Task) (calls : List ℕ) → SameBytes h ts calls
+same_bytes h ts calls f m = written_back f h ts calls m
 
 -- a section behind what was written
 pub section_placed : (area a b c before body : List ℕ) (letter n : ℕ) → n ≡ length body → a ≡ placed area 0 before → b ≡ placed a (length before) (letter ∷ two n) → c ≡ placed b (length before + 3) body → length before + 3 + length body ≤ length area → c ≡ placed area 0 (before ++ section letter body)

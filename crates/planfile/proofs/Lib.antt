@@ -1,3 +1,2 @@
 pub mod FileWritten
-pub mod Placing
 pub mod RowByRow

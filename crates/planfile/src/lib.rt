@@ -5,6 +5,8 @@
 mod pen;
 pub mod writing;
 
-pub use file_parts::{Call, Fault, NotWritten, Section, Settings};
-pub use file_reader::{Calls, Contents, Reader, RowRead, header, names_layout, read, row};
+pub use file_parts::{Call, Fault, NotWritten, Section, SectionKind, Settings, UnknownLetter};
+pub use file_reader::{
+    Calls, Contents, LayoutKind, Reader, RowFault, RowRead, header, names_layout, read, row,
+};
 pub use writing::write;

@@ -1,9 +1,9 @@
 // Bytes written into an area.
 ghost use Rattle.std.specs.Prelude.{◌≡◌, ◌+◌, ◌≤◌, length};
 ghost use Rattle.plan.specs.Views.{task_of};
-ghost use Rattle.file_reader.specs.Bytes.{two, four};
+ghost use Rattle.file_reader.specs.Bytes.{four};
 ghost use Rattle.file_reader.specs.Grammar.{row_bytes};
-ghost use Rattle.planfile.specs.Areas.{placed};
+ghost use Rattle.areas.specs.Areas.{placed};
 
 use plan::Row;
 
@@ -15,19 +15,11 @@ pub(crate) fn put(area: &mut [u8], at: usize, bytes: &[u8])
     area[at..at + bytes.len()].copy_from_slice(bytes);
 }
 
-pub(crate) fn put_word(area: &mut [u8], at: usize, n: u16)
-    requires { at + 2 ≤ length area.old }
-    ensures { area.new ≡ placed area.old at (two n) }
-{
-    put(area, at, &[(n / 256) as u8, (n % 256) as u8]);
-}
-
 fn put_long(area: &mut [u8], at: usize, n: u32)
     requires { at + 4 ≤ length area.old }
     ensures { area.new ≡ placed area.old at (four n) }
 {
-    put_word(area, at, (n / 65536) as u16);
-    put_word(area, at + 2, (n % 65536) as u16);
+    put(area, at, &n.to_be_bytes());
 }
 
 // How long a row is.

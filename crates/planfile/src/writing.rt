@@ -1,15 +1,15 @@
 // Writing a plan file.
-ghost use Rattle.std.specs.Prelude.{◌≡◌, ◌+◌, ◌≤◌, ◌∷◌, length, if◌then◌else◌, Ok, Err, nat_eq};
+ghost use Rattle.std.specs.Prelude.{◌≡◌, ◌+◌, ◌≤◌, ◌∷◌, length, if◌then◌else◌, MatchResult, nat_eq};
 ghost use Rattle.std.specs.List.{flat_map};
 ghost use Rattle.plan.specs.Views.{tasks};
-ghost use Rattle.planfile.specs.Areas.{placed};
+ghost use Rattle.areas.specs.Areas.{placed};
 ghost use Rattle.file_reader.specs.Bytes.{two};
 ghost use Rattle.file_reader.specs.Grammar.{row_bytes};
 ghost use Rattle.file_reader.specs.Meaning.{written};
 ghost use Rattle.planfile.specs.Writing.{WrittenOrNot, ReadsBack, SameBytes};
 ghost use Rattle.file_reader.specs.Readers.{CallsWhole, CallsBroken};
 
-use crate::pen::{put, put_row, put_word, row_len};
+use crate::pen::{put, put_row, row_len};
 use file_parts::{Fault, HEAD, NotWritten, Settings};
 use file_reader::{Calls, HEADER, names_layout};
 use plan::Table;
@@ -19,7 +19,7 @@ pub const LONGEST_CALLS: usize = 65_535;
 
 // Tests a list of calls to its end.
 fn test_calls(bytes: &[u8]) -> Result<(), Fault>
-    ensures { elim result [ Ok u ↦ CallsWhole bytes.now 0 (length bytes.now) | Err e ↦ CallsBroken bytes.now 0 (length bytes.now) e ] }
+    ensures { MatchResult result (λ _. CallsWhole bytes.now 0 (length bytes.now)) (CallsBroken bytes.now 0 (length bytes.now)) }
 {
     let mut calls = Calls::new(bytes);
     while let Some(_) = calls.next()? {}
@@ -31,13 +31,7 @@ fn rows_len(table: &Table) -> usize
     ensures is { result ≡ length (flat_map row_bytes (tasks table.now)) }
     ensures short { result ≤ 1600 }
 {
-    let mut len = 0;
-    for i in 0..table.count() {
-        if let Some(row) = table.row(i) {
-            len += row_len(&row);
-        }
-    }
-    len
+    table.rows().iter().map(row_len).sum()
 }
 
 // How long a file is with so many bytes of rows and of calls.
@@ -59,11 +53,9 @@ fn put_rows(area: &mut [u8], at: usize, table: &Table)
     ensures { area.new ≡ placed area.old at (flat_map row_bytes (tasks table.now)) }
 {
     let mut end = at;
-    for i in 0..table.count() {
-        if let Some(row) = table.row(i) {
-            put_row(area, end, &row);
-            end += row_len(&row);
-        }
+    for row in table.rows() {
+        put_row(area, end, row);
+        end += row_len(row);
     }
 }
 
@@ -72,8 +64,8 @@ fn put_head(area: &mut [u8], at: usize, letter: u8, len: u16)
     requires { at + 3 ≤ length area.old }
     ensures { area.new ≡ placed area.old at (letter ∷ two len) }
 {
-    put(area, at, &[letter]);
-    put_word(area, at + 1, len);
+    let [high, low] = len.to_be_bytes();
+    put(area, at, &[letter, high, low]);
 }
 
 // Header, table and, where there are some, calls. `rows` is the length of the table's rows.
@@ -120,9 +112,7 @@ pub fn write(
     if !names_layout(settings.letter) {
         return Err(NotWritten::Letter);
     }
-    if let Err(fault) = test_calls(calls) {
-        return Err(NotWritten::Calls { fault });
-    }
+    test_calls(calls)?;
     if calls.len() > LONGEST_CALLS {
         return Err(NotWritten::LongCalls);
     }

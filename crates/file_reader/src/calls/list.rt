@@ -1,5 +1,5 @@
 // What a list of calls gives.
-ghost use Rattle.std.specs.Prelude.{◌≡◌, Ok, Err};
+ghost use Rattle.std.specs.Prelude.{◌≡◌, MatchResult};
 ghost use Rattle.file_reader.specs.CallLists.{Begins, NextCall, NoCall};
 
 use super::Calls;
@@ -22,7 +22,9 @@ impl<'a> Calls<'a> {
     // The next call, or none at the end; at a fault the list stays where it is.
     pub fn next(&mut self) -> Result<Option<Call>, Fault>
         ensures bytes { self.new.bytes.now ≡ self.old.bytes.now }
-        ensures read { elim result [ Ok o ↦ NextCall self.old.bytes.now self.old.cursor.pos self.new.cursor.pos o | Err e ↦ NoCall self.old.bytes.now self.old.cursor.pos self.new.cursor.pos e ] }
+        ensures read { MatchResult result
+            (NextCall self.old.bytes.now self.old.cursor.pos self.new.cursor.pos)
+            (NoCall self.old.bytes.now self.old.cursor.pos self.new.cursor.pos) }
     {
         if self.cursor.pos == self.cursor.limit {
             return Ok(None);

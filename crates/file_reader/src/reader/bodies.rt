@@ -1,5 +1,5 @@
 // The body of a section, read within its own bounds.
-ghost use Rattle.std.specs.Prelude.{◌≡◌, ◌≤◌, length, Ok, Err};
+ghost use Rattle.std.specs.Prelude.{◌≡◌, ◌≤◌, length, MatchResult};
 ghost use Rattle.plan.specs.Views.{tasks};
 ghost use Rattle.file_reader.specs.Steps.{RowsTaken};
 ghost use Rattle.file_reader.specs.Readers.{RowsBroken, CallsBroken, CallsWhole};
@@ -17,7 +17,9 @@ impl Reader<'_> {
         ensures file { self.new.file.now ≡ self.old.file.now }
         ensures due { self.new.due ≡ self.old.due }
         ensures noted { self.new.noted ≡ self.old.noted }
-        ensures read { elim result [ Ok u ↦ (self.new.cursor.pos ≡ end) × RowsTaken self.old.file.now self.old.cursor.pos end (tasks table.new) | Err e ↦ RowsBroken self.old.file.now self.old.cursor.pos end e ] }
+        ensures read { MatchResult result
+            (λ _. (self.new.cursor.pos ≡ end) × RowsTaken self.old.file.now self.old.cursor.pos end (tasks table.new))
+            (RowsBroken self.old.file.now self.old.cursor.pos end) }
     {
         table.clear();
         let file = self.file;
@@ -35,7 +37,9 @@ impl Reader<'_> {
         ensures file { self.new.file.now ≡ self.old.file.now }
         ensures due { self.new.due ≡ self.old.due }
         ensures noted { self.new.noted ≡ self.old.noted }
-        ensures read { elim result [ Ok u ↦ (self.new.cursor.pos ≡ end) × CallsWhole self.old.file.now self.old.cursor.pos end | Err e ↦ CallsBroken self.old.file.now self.old.cursor.pos end e ] }
+        ensures read { MatchResult result
+            (λ _. (self.new.cursor.pos ≡ end) × CallsWhole self.old.file.now self.old.cursor.pos end)
+            (CallsBroken self.old.file.now self.old.cursor.pos end) }
     {
         let file = self.file;
         let guard = narrow(&mut self.cursor, end);

@@ -1,18 +1,20 @@
 // Sections, one after the other.
-ghost use Rattle.std.specs.Prelude.{◌≡◌, Some, None, Ok, Err};
+ghost use Rattle.std.specs.Prelude.{◌≡◌, Some, MatchResult};
 ghost use Rattle.plan.specs.Views.{tasks};
 ghost use Rattle.file_reader.specs.Readers.{Headed, head_fault, Came, Sectioned, Stopped};
 
 use super::Reader;
 use crate::cursor::word;
 use crate::letters::{has_turn, section_of};
-use file_parts::{Due, Fault, HEAD, Section};
+use file_parts::{Due, Fault, HEAD, Section, SectionKind};
 use plan::Table;
 
 impl<'a> Reader<'a> {
     // The section that stands here, if the file has not ended, by its letter and length alone.
     fn head(&self) -> Result<Option<Section<'a>>, Fault>
-        ensures { elim result [ Ok o ↦ Headed self.now.file.now self.now.cursor.pos self.now.due o | Err e ↦ head_fault self.now.file.now self.now.cursor.pos self.now.due ≡ Some e ] }
+        ensures { MatchResult result
+            (Headed self.now.file.now self.now.cursor.pos self.now.due)
+            (λ e. head_fault self.now.file.now self.now.cursor.pos self.now.due ≡ Some e) }
     {
         let file = self.file;
         let at = self.cursor.pos;
@@ -23,12 +25,8 @@ impl<'a> Reader<'a> {
                 _ => Ok(None),
             };
         }
-        let letter = file[at];
-        match letter {
-            b'T' | b'C' | b'N' => {}
-            _ => return Err(Fault::Letter { at }),
-        }
-        if !has_turn(self.due, letter) {
+        let kind = SectionKind::try_from(file[at]).map_err(|_| Fault::Letter { at })?;
+        if !has_turn(self.due, kind) {
             return Err(Fault::Order { at });
         }
         if end - at < HEAD {
@@ -38,11 +36,11 @@ impl<'a> Reader<'a> {
         if end - at - HEAD < many {
             return Err(Fault::ShortFile { len: end });
         }
-        if letter == b'C' && many == 0 {
+        if kind == SectionKind::Calls && many == 0 {
             return Err(Fault::NoCalls { at: at + 1 });
         }
         let body = &file[at + HEAD..at + HEAD + many];
-        Ok(Some(section_of(letter, body, at)))
+        Ok(Some(section_of(kind, body, at)))
     }
 
     // The next section, its body read too.
@@ -50,9 +48,8 @@ impl<'a> Reader<'a> {
         ensures file { self.new.file.now ≡ self.old.file.now }
         ensures read { Sectioned self.old (tasks table.old) self.new (tasks table.new) result }
     {
-        let section = match self.head()? {
-            None => return Ok(None),
-            Some(section) => section,
+        let Some(section) = self.head()? else {
+            return Ok(None);
         };
         let start = self.cursor.pos + HEAD;
         let end = start + section.body().len();
@@ -78,16 +75,16 @@ impl<'a> Reader<'a> {
     // After a fault the reader stands where it stood, and the table has no rows.
     pub fn next(&mut self, table: &mut Table) -> Result<Option<Section<'a>>, Fault>
         ensures file { self.new.file.now ≡ self.old.file.now }
-        ensures read { elim result [ Ok o ↦ Came self.old (tasks table.old) self.new (tasks table.new) o | Err e ↦ Stopped self.old self.new (tasks table.new) e ] }
+        ensures read { MatchResult result
+            (Came self.old (tasks table.old) self.new (tasks table.new))
+            (Stopped self.old self.new (tasks table.new)) }
     {
         let at = self.cursor.pos;
-        match self.section(table) {
-            Ok(found) => Ok(found),
-            Err(fault) => {
-                self.cursor.pos = at;
-                table.clear();
-                Err(fault)
-            }
+        let found = self.section(table);
+        if found.is_err() {
+            self.cursor.pos = at;
+            table.clear();
         }
+        found
     }
 }

@@ -1,5 +1,5 @@
 use Rattle.std.proofs.Common.{rules}
-use Rattle.line_text.proofs.Placing.{put_placed}
+use Rattle.areas.proofs.Placing.{put_placed}
 use Rattle.line_text.proofs.pen.put.Goals as goal
 
 pub returns : goal.returns

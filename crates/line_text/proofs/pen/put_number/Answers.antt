@@ -1,9 +1,9 @@
 use Rattle.std.proofs.Common.{◌≡◌, ◌+◌, ◌-◌, ◌%◌, ◌<◌, ◌∷◌, length, take, drop, set, sym, ap, ◌∙◌, arith}
 use Rattle.std.specs.Int.Digits.{number_from_digits}
 use Rattle.std.proofs.lemmas.List.{take_all, drop_all, drop_more, length-drop}
-use Rattle.line_text.specs.Areas.{placed}
+use Rattle.areas.specs.Areas.{placed}
 use Rattle.line_text.specs.Decimals.{digits}
-use Rattle.line_text.proofs.Placing.{placed_nothing, placed_before}
+use Rattle.areas.proofs.Placing.{placed_nothing, placed_before}
 use Rattle.line_text.proofs.Spelled.{figures, length_figures, number_figures, digit_at}
 use Rattle.line_text.proofs.pen.put_number.Goals as goal
 

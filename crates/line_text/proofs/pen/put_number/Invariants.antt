@@ -1,6 +1,6 @@
 use Rattle.std.proofs.Common.{◌≡◌, ◌-◌, ◌≤◌, take, drop}
 use Rattle.std.specs.Int.Digits.{number_from_digits}
-use Rattle.line_text.specs.Areas.{placed}
+use Rattle.areas.specs.Areas.{placed}
 use Rattle.line_text.specs.Decimals.{digits}
 use Rattle.line_text.proofs.Spelled.{figures}
 use Rattle.line_text.proofs.pen.put_number.Given as goal

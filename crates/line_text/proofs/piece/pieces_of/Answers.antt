@@ -17,7 +17,7 @@ pub returns-in-TickRefused : goal.returns-in-TickRefused
 returns-in-TickRefused c = record { says = search rules; short = subst (Short 80) (sym c.in-TickRefused.is) (short (TickRefused c.in-TickRefused.number) (search rules)) }
 
 pub returns-in-Answer : goal.returns-in-Answer
-returns-in-Answer c = record { says = search rules; short = subst (Short 80) (sym c.in-Answer.is) (short (Answer c.in-Answer.asked c.in-Answer.task c.in-Answer.number) (search rules, search rules)) }
+returns-in-Answer c = record { says = search rules; short = subst (Short 80) (sym c.in-Answer.is) (short (Answer c.in-Answer.asked c.in-Answer.task c.in-Answer.refusal) (search rules, search rules)) }
 
 pub returns-in-End : goal.returns-in-End
 returns-in-End c = record { says = search rules; short = subst (Short 80) (sym c.in-End.is) (short (End c.in-End.clock) (search rules)) }

@@ -1,8 +1,8 @@
 use Rattle.std.proofs.Common.{[], ◌∷◌, length, sym, ap, ◌∙◌, arith}
 use Rattle.line_text.specs.Decimals.{digits}
-use Rattle.line_text.specs.Areas.{placed}
+use Rattle.areas.specs.Areas.{placed}
 use Rattle.line_text.proofs.Entries.{entry_task}
-use Rattle.line_text.proofs.Placing.{placed_then}
+use Rattle.areas.proofs.Placing.{placed_then}
 use Rattle.line_text.proofs.writing.put_entry.Goals as goal
 
 pub returns-else-task-eq-IDLE : goal.returns-else-task-eq-IDLE

@@ -1,9 +1,9 @@
 use Rattle.std.proofs.Common.{length, sym, ap, ◌∙◌, arith}
 use Rattle.std.proofs.lemmas.List.{length-append}
-use Rattle.line_text.specs.Areas.{placed}
+use Rattle.areas.specs.Areas.{placed}
 use Rattle.line_text.specs.Decimals.{digits}
 use Rattle.line_text.specs.Spellings.{piece_text}
-use Rattle.line_text.proofs.Placing.{placed_nothing, placed_then}
+use Rattle.areas.proofs.Placing.{placed_nothing, placed_then}
 use Rattle.line_text.proofs.writing.put_piece.Goals as goal
 
 pub put-at-requires : goal.put-at-requires

@@ -1,7 +1,7 @@
 use Rattle.std.proofs.Common.{[], ◌∷◌, arith}
 use Rattle.line_text.specs.Spellings.{piece_text}
 use Rattle.line_text.proofs.Pieced.{spelled_length}
-use Rattle.line_text.proofs.Placing.{four_placed}
+use Rattle.areas.proofs.Placing.{four_placed}
 use Rattle.line_text.proofs.writing.put_pieces.Goals as goal
 
 pub put_piece-at-requires : goal.put_piece-at-requires

@@ -1,10 +1,10 @@
 use Rattle.std.proofs.Common.{◌≡◌, ◌+◌, length, get_or, take, sym, ap, ◌∙◌, arith}
 use Rattle.std.specs.List.{flat_map}
 use Rattle.std.proofs.lemmas.List.{take_all}
-use Rattle.line_text.specs.Areas.{placed}
+use Rattle.areas.specs.Areas.{placed}
 use Rattle.line_text.specs.Texts.{entry}
 use Rattle.line_text.proofs.Entries.{entries_more, entries_more_length, entries_within}
-use Rattle.line_text.proofs.Placing.{placed_nothing, placed_then}
+use Rattle.areas.proofs.Placing.{placed_nothing, placed_then}
 use Rattle.line_text.proofs.writing.put_row.Goals as goal
 
 pub loop-i-init : goal.loop-i-init

@@ -1,6 +1,6 @@
 use Rattle.std.proofs.Common.{◌≡◌, ◌+◌, length, take}
 use Rattle.std.specs.List.{flat_map}
-use Rattle.line_text.specs.Areas.{placed}
+use Rattle.areas.specs.Areas.{placed}
 use Rattle.line_text.specs.Texts.{entry}
 use Rattle.line_text.proofs.writing.put_row.Given as goal
 

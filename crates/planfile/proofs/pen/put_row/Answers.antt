@@ -1,8 +1,8 @@
 use Rattle.std.proofs.Common.{◌≡◌, ℕ, ◌+◌, ◌≤◌, List, [], ◌∷◌, ◌++◌, length, refl, ap, ◌∙◌, subst, arith}
 use Rattle.plan.specs.Views.{letters, task_of}
-use Rattle.planfile.specs.Areas.{placed}
+use Rattle.areas.specs.Areas.{placed}
 use Rattle.file_reader.specs.Bytes.{four}
-use Rattle.planfile.proofs.Placing.{placed_then}
+use Rattle.areas.proofs.Placing.{placed_then}
 use Rattle.file_reader.proofs.Spelling.{row_bytes_length}
 use Rattle.planfile.proofs.pen.put_row.Goals as goal
 

@@ -3,10 +3,10 @@ use Rattle.std.specs.List.{flat_map}
 use Rattle.std.proofs.lemmas.List.{append-nil}
 use Rattle.std.proofs.lemmas.Bool.{eqb-true}
 use Rattle.plan.specs.Views.{tasks}
-use Rattle.planfile.specs.Areas.{placed}
+use Rattle.areas.specs.Areas.{placed}
 use Rattle.file_reader.specs.Bytes.{two}
 use Rattle.file_reader.specs.Grammar.{header, section, row_bytes}
-use Rattle.planfile.proofs.Placing.{placed_length}
+use Rattle.areas.proofs.Placing.{placed_length}
 use Rattle.planfile.proofs.FileWritten.{section_placed, no_section, some_section, some_bytes}
 use Rattle.file_reader.proofs.RoundTrip.{written_length, calls_section_length}
 use Rattle.planfile.proofs.writing.put_file.Goals as goal

@@ -1,9 +1,11 @@
 use Rattle.std.proofs.Common.{◌≡◌, ◌+◌, length, take}
 use Rattle.std.specs.List.{flat_map}
-use Rattle.plan.specs.Views.{tasks}
-use Rattle.planfile.specs.Areas.{placed}
-use Rattle.file_reader.specs.Grammar.{row_bytes}
+use Rattle.areas.specs.Areas.{placed}
+use Rattle.planfile.proofs.RowByRow.{spelled}
 use Rattle.planfile.proofs.writing.put_rows.Given as goal
 
-abbrev pub invariant-loop-i : goal.invariant-loop-i
-invariant-loop-i l = (l.end ≡ l.at + length (flat_map row_bytes (take l.i (tasks l.table)))) × (l.area ≡ placed l.initial.area l.at (flat_map row_bytes (take l.i (tasks l.table))))
+abbrev pub invariant-loop-row : goal.invariant-loop-row
+invariant-loop-row l = record {
+  behind : l.end ≡ l.at + length (flat_map spelled (take l.row-index l.row-items));
+  written : l.area ≡ placed l.initial.area l.at (flat_map spelled (take l.row-index l.row-items));
+}

@@ -1,37 +1,24 @@
-use Rattle.std.proofs.Common.{◌≡◌, ◌+◌, length, take, sym, ap, ◌∙◌, arith}
+use Rattle.std.proofs.Common.{◌≤◌, length, sym, ap, ◌∙◌, arith, rules, tests}
 use Rattle.std.specs.List.{flat_map}
-use Rattle.std.proofs.lemmas.List.{take_all}
-use Rattle.plan.specs.Views.{task_of, tasks}
+use Rattle.std.proofs.lemmas.Iterator.{YieldsList-from_slice, YieldsList-from_map}
+use Rattle.std.proofs.lemmas.Iterator.Consumers.{sum_by_from_yields_List, fits_by_from_yields_list}
+use Rattle.plan.specs.Views.{tasks}
 use Rattle.file_reader.specs.Grammar.{row_bytes}
-use Rattle.file_reader.proofs.GoodRows.{tasks_taken}
-use Rattle.planfile.proofs.RowByRow.{rows_front_length, rows_front_short, row_there}
+use Rattle.file_reader.proofs.GoodRows.{tasks_taken, rows_short}
+use Rattle.planfile.proofs.RowByRow.{spelled_len, rows_sum}
 use Rattle.planfile.proofs.writing.rows_len.Goals as goal
-use Rattle.planfile.proofs.writing.rows_len.Goals.{in-Some, in_default}
 
-pub overflow_add-len : goal.overflow_add-len
-overflow_add-len c =
-    let t = c.args.table.now in
-    let i = c.loop-i.i in
-    let short = rows_front_short (tasks t) (i + 1) (tasks_taken t) in
-    let more = rows_front_length (tasks t) i (task_of c.in-Some.row) (sym c.in-Some.ensures) in
-    omega (arith, c.loop-i.invariant, c.row_len-len.ensures, short, more)
+pub sum-requires-clause-fits : goal.sum-requires-clause-fits
+sum-requires-clause-fits c =
+    let short : length (flat_map row_bytes (tasks c.args.table.now)) ≤ 1600 = rows_short (tasks c.args.table.now) (tasks_taken c.args.table.now) in
+    fits_by_from_yields_list spelled_len c.rows.result.now c.map.result _ (YieldsList-from_map _ spelled_len (YieldsList-from_slice c.rows.result.now cc) c.map.ensures.closure (λ x r q k. search (rules, tests)))
+    (omega (arith, rows_sum c.rows.result.now, ap (λ l. length (flat_map row_bytes l)) c.rows.ensures, short))
 
-pub loop-i-preserved : goal.loop-i-preserved
-loop-i-preserved c =
-    let ts = tasks c.args.table.now in
-    let i = c.loop-i.i in
-    elim c.match-row.branch [
-      | in-Some w ↦
-          let more = rows_front_length ts i (task_of w.in-Some.row) (sym w.in-Some.ensures) in
-          let is : c.match-row.len ≡ length (flat_map row_bytes (take (i + 1) ts)) = w.len-is ∙ omega (arith, c.loop-i.invariant, w.row_len-len.ensures, more) in
-          is
-      | in_default w ↦ absurd (row_there ts i c.row.result c.row.ensures w.in_default.is (omega (arith, c.loop-i-test.true, c.count-i-end.ensures)))
-    ]
+pub returns-clause-is : goal.returns-clause-is
+returns-clause-is c =
+    sum_by_from_yields_List spelled_len c.rows.result.now c.map.result c.sum.result c.sum.ensures.ran (YieldsList-from_map _ spelled_len (YieldsList-from_slice c.rows.result.now cc) c.map.ensures.closure (λ x r q k. search (rules, tests)))
+    ∙ sym (rows_sum c.rows.result.now) ∙ ap (λ l. length (flat_map row_bytes l)) c.rows.ensures
 
-pub returns : goal.returns
-returns c =
-    let t = c.args.table.now in
-    let i = c.loop-i.i in
-    let all : take i (tasks t) ≡ tasks t = take_all i (tasks t) (omega (arith, c.loop-i-test.false, c.count-i-end.ensures)) in
-    let is : c.loop-i.len ≡ length (flat_map row_bytes (take i (tasks t))) = c.loop-i.invariant in
-    record { is = is ∙ ap (λ l. length (flat_map row_bytes l)) all; short = omega (arith, is, rows_front_short (tasks t) i (tasks_taken t)) }
+pub returns-clause-short : goal.returns-clause-short
+returns-clause-short c =
+    omega (arith, returns-clause-is c, rows_short (tasks c.args.table.now) (tasks_taken c.args.table.now))

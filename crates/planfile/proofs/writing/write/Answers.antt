@@ -1,34 +1,33 @@
 use Rattle.std.proofs.Common.{◌≡◌, ◌+◌, true, false, ◌++◌, length, drop, sym, ap, ◌∙◌, arith, rules}
+use Rattle.std.proofs.lemmas.Result.{err_from_is_err_and}
 use Rattle.plan.specs.Views.{tasks}
 use Rattle.file_reader.specs.Grammar.{layout_letter}
 use Rattle.file_reader.specs.Meaning.{acceptance, written}
 use Rattle.file_reader.specs.Readers.{CallsWhole}
 use Rattle.planfile.specs.Writing.{IsNotWritten}
-use Rattle.planfile.proofs.FileWritten.{section_length, whole_read}
+use Rattle.planfile.proofs.FileWritten.{section_length, whole_read, same_bytes}
 use Rattle.file_reader.proofs.GoodRows.{tasks_taken}
 use Rattle.file_reader.proofs.OneMeaning.{only}
-use Rattle.file_reader.proofs.RoundTrip.{written_back, written_length}
+use Rattle.file_reader.proofs.RoundTrip.{written_length}
 use Rattle.planfile.proofs.writing.write.Goals as goal
 
 pub returns-then-not-names_layout : goal.returns-then-not-names_layout
-returns-then-not-names_layout c = record {
-  written = (IsNotWritten.letter (sym c.if-not-names_layout.ensures), search rules);
-  back = tt;
-  again = λ f m. written_back f c.args.settings (tasks c.args.table.now) c.args.calls.now m;
-}
+returns-then-not-names_layout c = record { written = (IsNotWritten.letter (sym c.if-not-names_layout.ensures), search rules); back = tt; again = same_bytes c.args.settings (tasks c.args.table.now) c.args.calls.now }
 
-pub returns-in-Err : goal.returns-in-Err
-returns-in-Err c = record {
-  written = (IsNotWritten.calls_at_fault c.in-Err.fault (sym c.if-not-names_layout.ensures) c.in-Err.ensures, search rules);
-  back = tt;
-  again = λ f m. written_back f c.args.settings (tasks c.args.table.now) c.args.calls.now m;
-}
+pub returns-in_err-test_calls : goal.returns-in_err-test_calls
+returns-in_err-test_calls c =
+    let r = err_from_is_err_and c.from_residual.result c.from_residual.ensures.1 in
+    rw (r.1, r.2) (record {
+      written = (IsNotWritten.calls_at_fault c.in_err-test_calls.field-0.0 (sym c.if-not-names_layout.ensures) c.in_err-test_calls.ensures, search rules);
+      back = tt;
+      again = same_bytes c.args.settings (tasks c.args.table.now) c.args.calls.now;
+    })
 
 pub returns-then-calls-gt-LONGEST_CALLS : goal.returns-then-calls-gt-LONGEST_CALLS
 returns-then-calls-gt-LONGEST_CALLS c = record {
-  written = (IsNotWritten.long_calls (sym c.if-not-names_layout.ensures) c.in_default.ensures c.if-calls-gt-LONGEST_CALLS.true, search rules);
+  written = (IsNotWritten.long_calls (sym c.if-not-names_layout.ensures) c.in_ok-test_calls.ensures c.if-calls-gt-LONGEST_CALLS.true, search rules);
   back = tt;
-  again = λ f m. written_back f c.args.settings (tasks c.args.table.now) c.args.calls.now m;
+  again = same_bytes c.args.settings (tasks c.args.table.now) c.args.calls.now;
 }
 
 pub returns-then-area-len : goal.returns-then-area-len
@@ -38,9 +37,9 @@ returns-then-area-len c =
     let calls = c.args.calls.now in
     let long : length (written h ts calls) ≡ c.file_len-len.result = written_length h ts calls ∙ omega (arith, c.rows_len-rows.ensures.is, c.file_len-len.ensures, section_length calls) in
     record {
-      written = (IsNotWritten.short_area (sym c.if-not-names_layout.ensures) c.in_default.ensures c.if-calls-gt-LONGEST_CALLS.false (omega (arith, long, c.if-area-len.true)), search rules);
+      written = (IsNotWritten.short_area (sym c.if-not-names_layout.ensures) c.in_ok-test_calls.ensures c.if-calls-gt-LONGEST_CALLS.false (omega (arith, long, c.if-area-len.true)), search rules);
       back = tt;
-      again = λ f m. written_back f h ts calls m;
+      again = same_bytes h ts calls;
     }
 
 pub put_file-requires : goal.put_file-requires
@@ -58,7 +57,7 @@ returns c =
     let calls = c.args.calls.now in
     let area = c.args.area.now in
     let letter : layout_letter h.letter ≡ true = sym c.if-not-names_layout.ensures in
-    let whole : CallsWhole calls 0 (length calls) = c.in_default.ensures in
+    let whole : CallsWhole calls 0 (length calls) = c.in_ok-test_calls.ensures in
     let long : length (written h ts calls) ≡ c.file_len-len.result = written_length h ts calls ∙ omega (arith, c.rows_len-rows.ensures.is, c.file_len-len.ensures, section_length calls) in
     let means = whole_read h ts calls letter (tasks_taken c.args.table.now) whole in
     record {
@@ -71,5 +70,5 @@ returns c =
         bytes = c.put_file.ensures ∙ ap (λ n. written h ts calls ++ drop n area) (let n : 0 + length (written h ts calls) ≡ c.file_len-len.result = omega (arith, long) in n);
       };
       back = (means, only (written h ts calls) (acceptance h ts calls false) means);
-      again = λ f m. written_back f h ts calls m;
+      again = same_bytes h ts calls;
     }

@@ -1,8 +1,10 @@
-use Rattle.std.proofs.Common.{◌≡◌, ℕ, ◌+◌, ◌-◌, ◌≤◌, List, [], ◌∷◌, ◌++◌, length, get_or, take, drop, Some, None, sym, ap, ◌∙◌, subst, arith, rules}
+use Rattle.std.proofs.Common.{◌≡◌, ℕ, ◌+◌, ◌-◌, ◌≤◌, List, [], ◌∷◌, ◌++◌, length, get_or, take, drop, Option, Some, None, sym, ap, ◌∙◌, subst, arith, rules}
 use Rattle.std.proofs.lemmas.List.{length-drop, length-take-le}
 use Rattle.plan.specs.Rows.{Task}
 use Rattle.plan.specs.Views.{tasks}
 use Rattle.file_parts.specs.declared.fault.Fault.TheVariants.{Name, Cut}
+use Rattle.file_reader.specs.declared.rows.RowFault.{RowFault}
+use Rattle.file_reader.specs.declared.rows.RowFault.TheVariants as form
 use Rattle.file_reader.specs.declared.rows.RowRead.{RowRead}
 use Rattle.file_reader.specs.Bytes.{long_at, Stands}
 use Rattle.file_reader.specs.Grammar.{row_bytes}
@@ -12,38 +14,36 @@ use Rattle.file_reader.proofs.RowCases.{part, seen, cut, misnamed, whole, part_l
 use Rattle.file_reader.proofs.Spelling.{row_bytes_length}
 use Rattle.file_reader.proofs.cursor.Cursor.row.Goals as goal
 
-abbrev code : RowRead → ℕ
-code r = r.fault
+abbrev fault_of : RowRead → Option RowFault
+fault_of r = r.fault
 
-pub returns-then-read-eq15 : goal.returns-then-read-eq15
-returns-then-read-eq15 c =
+pub returns-in-Some-Name-clause-read : goal.returns-in-Some-Name-clause-read
+returns-in-Some-Name-clause-read c =
     let f = c.args.file.now in
     let p = c.args.self.now.pos in
     let e = c.args.self.now.limit in
-    let l : p ≤ e = search rules in
-    let w : e ≤ length f = search rules in
     let k : ℕ = length (tasks c.args.table.now) in
-    let is : row_fault f p e k ≡ Some (Name (p + 8)) = elim (seen f p e l w) [
-      | cut r s ↦ absurd (let z : ◌≡◌ {A = ℕ} 15 16 = sym c.if-read-eq15.true ∙ ap code c.row.ensures.is ∙ ap code r in omega (arith, z))
+    let found : c.row.result.0.fault ≡ Some form.Name = search rules in
+    let is : row_fault f p e k ≡ Some (Name (p + 8)) = elim (seen f p e (search rules) (search rules)) [
+      | cut r s ↦ absurd (let z : Some form.Name ≡ Some form.Cut = sym found ∙ ap fault_of (c.row.ensures.is ∙ r) in cc z)
       | misnamed r s ↦ s k
-      | whole m r u t s ↦ absurd (let z : ◌≡◌ {A = ℕ} 15 0 = sym c.if-read-eq15.true ∙ ap code c.row.ensures.is ∙ ap code r in omega (arith, z))
+      | whole m r u t s ↦ absurd (let z : Some form.Name ≡ None = sym found ∙ ap fault_of (c.row.ensures.is ∙ r) in cc z)
     ] in
-    record { limit = search rules; within = search rules; read = (is, search rules) }
+    (is, search rules)
 
-pub returns-then-read-ne0 : goal.returns-then-read-ne0
-returns-then-read-ne0 c =
+pub returns-in-Some-Cut-clause-read : goal.returns-in-Some-Cut-clause-read
+returns-in-Some-Cut-clause-read c =
     let f = c.args.file.now in
     let p = c.args.self.now.pos in
     let e = c.args.self.now.limit in
-    let l : p ≤ e = search rules in
-    let w : e ≤ length f = search rules in
     let k : ℕ = length (tasks c.args.table.now) in
-    let is : row_fault f p e k ≡ Some (Cut e) = elim (seen f p e l w) [
+    let found : c.row.result.0.fault ≡ Some form.Cut = search rules in
+    let is : row_fault f p e k ≡ Some (Cut e) = elim (seen f p e (search rules) (search rules)) [
       | cut r s ↦ s k
-      | misnamed r s ↦ absurd (c.if-read-eq15.false (ap code c.row.ensures.is ∙ ap code r))
-      | whole m r u t s ↦ absurd (c.if-read-ne0.true (ap code c.row.ensures.is ∙ ap code r))
+      | misnamed r s ↦ absurd (let z : Some form.Cut ≡ Some form.Name = sym found ∙ ap fault_of (c.row.ensures.is ∙ r) in cc z)
+      | whole m r u t s ↦ absurd (let z : Some form.Cut ≡ None = sym found ∙ ap fault_of (c.row.ensures.is ∙ r) in cc z)
     ] in
-    record { limit = search rules; within = search rules; read = (is, search rules) }
+    (is, search rules)
 
 pub overflow_sub-self : goal.overflow_sub-self
 overflow_sub-self c =
@@ -58,7 +58,7 @@ overflow_sub-self c =
 abbrev got : List ℕ → ℕ → RowRead → Task
 got f p r = record { budget = r.budget; period = r.period; name = take (p + r.name_at + r.name_len - (p + r.name_at)) (drop (p + r.name_at) f) }
 
-got_is : (f : List ℕ) (p : ℕ) (r : RowRead) → r ≡ record { budget = long_at f p; period = long_at f (p + 4); name_at = 9; name_len = get_or f (p + 8) 0; fault = 0 } → got f p r ≡ task_at f p
+got_is : (f : List ℕ) (p : ℕ) (r : RowRead) → r ≡ record { budget = long_at f p; period = long_at f (p + 4); name_at = 9; name_len = get_or f (p + 8) 0; fault = None } → got f p r ≡ task_at f p
 got_is f p r e = ap (got f p) e ∙ ap (λ n. record { budget = long_at f p; period = long_at f (p + 4); name = take n (drop (p + 9) f) }) (omega arith)
 
 row_length : (f : List ℕ) (p : ℕ) → p + 9 + get_or f (p + 8) 0 ≤ length f → length (row_bytes (task_at f p)) ≡ 9 + get_or f (p + 8) 0
@@ -74,8 +74,8 @@ returns-in-Ok c =
     let k : ℕ = length (tasks c.args.table.now) in
     let b : List ℕ = part f p e in
     elim (seen f p e l w) [
-      | cut r s ↦ absurd (let z : ◌≡◌ {A = ℕ} 0 16 = sym c.if-read-ne0.false ∙ ap code c.row.ensures.is ∙ ap code r in omega (arith, z))
-      | misnamed r s ↦ absurd (c.if-read-eq15.false (ap code c.row.ensures.is ∙ ap code r))
+      | cut r s ↦ absurd (let z : c.row.result.0.fault ≡ Some form.Cut = ap fault_of (c.row.ensures.is ∙ r) in cc)
+      | misnamed r s ↦ absurd (let z : c.row.result.0.fault ≡ Some form.Name = ap fault_of (c.row.ensures.is ∙ r) in cc)
       | whole m r u t s ↦
           let same = got_is f p c.row.result.0 (c.row.ensures.is ∙ r) in
           let ok = c.in-Ok.ensures in
@@ -86,7 +86,7 @@ returns-in-Ok c =
             within = omega (arith, rest, m);
             read = record {
               task = task_at f p;
-              stands = part_stands f p e l w (row_bytes (task_at f p)) (omega (arith, long, m)) (subst (λ x. Stands b 0 (row_bytes x)) t (c.row.ensures.spelled (ap code c.row.ensures.is ∙ ap code r)));
+              stands = part_stands f p e l w (row_bytes (task_at f p)) (omega (arith, long, m)) (subst (λ x. Stands b 0 (row_bytes x)) t (c.row.ensures.spelled (ap fault_of c.row.ensures.is ∙ ap fault_of r)));
               good = subst (λ x. refused x k ≡ None) same ok.0;
               after = omega (arith, rest, m, long);
               added = ok.1 ∙ ap (λ x. tasks c.args.table.now ++ x ∷ []) same;
@@ -103,8 +103,8 @@ returns-in-Err c =
     let w : e ≤ length f = search rules in
     let k : ℕ = length (tasks c.args.table.now) in
     elim (seen f p e l w) [
-      | cut r s ↦ absurd (let z : ◌≡◌ {A = ℕ} 0 16 = sym c.if-read-ne0.false ∙ ap code c.row.ensures.is ∙ ap code r in omega (arith, z))
-      | misnamed r s ↦ absurd (c.if-read-eq15.false (ap code c.row.ensures.is ∙ ap code r))
+      | cut r s ↦ absurd (let z : c.row.result.0.fault ≡ Some form.Cut = ap fault_of (c.row.ensures.is ∙ r) in cc)
+      | misnamed r s ↦ absurd (let z : c.row.result.0.fault ≡ Some form.Name = ap fault_of (c.row.ensures.is ∙ r) in cc)
       | whole m r u t s ↦
           let same = got_is f p c.row.result.0 (c.row.ensures.is ∙ r) in
           let bad = c.in-Err.ensures in

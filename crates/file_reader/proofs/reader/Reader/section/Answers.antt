@@ -8,14 +8,14 @@ use Rattle.file_reader.proofs.Sectioning.{head_faulty, rows_faulty, calls_faulty
 use Rattle.file_reader.proofs.reader.Reader.section.Goals as goal
 use Rattle.file_reader.proofs.reader.Reader.section.Goals.{in-Table+in_ok-rows-in-Table, in-Calls+in_ok-calls-in-Calls, in-Note}
 
-pub returns-in_err-head : goal.returns-in_err-head
-returns-in_err-head c =
+pub returns-in_err-section : goal.returns-in_err-section
+returns-in_err-section c =
     let f = c.args.self.now.file.now in
     let p = c.args.self.now.cursor.pos in
     let due = c.args.self.now.due in
     let l : p ≤ length f = search rules in
     let r = err_from_is_err_and c.from_residual.result c.from_residual.ensures.1 in
-    rw (r.1, r.2) (record { file = search rules; read = (head_faulty f p due c.in_err-head.field-0.0 l c.in_err-head.ensures, search rules, search rules) })
+    rw (r.1, r.2) (record { file = search rules; read = (head_faulty f p due c.in_err-section.field-0.0 l c.in_err-section.ensures, search rules, search rules) })
 
 pub returns-in_err-rows-in-Table : goal.returns-in_err-rows-in-Table
 returns-in_err-rows-in-Table c =
@@ -23,7 +23,7 @@ returns-in_err-rows-in-Table c =
     let p = c.args.self.now.cursor.pos in
     let due = c.args.self.now.due in
     let s = c.in-Some.section in
-    let h : HeadRead f p due s = subst (Headed f p due) c.in-Some.is c.in_ok-head.ensures in
+    let h : HeadRead f p due s = subst (Headed f p due) c.in-Some.is c.in_ok-section.ensures in
     let t : letter_of s ≡ 84 = ap letter_of c.in-Table.is in
     let r = err_from_is_err_and c.from_residual-in_err-rows-in-Table.result c.from_residual-in_err-rows-in-Table.ensures.1 in
     let b = c.in_err-rows-in-Table.ensures in
@@ -35,7 +35,7 @@ returns-in_err-calls-in-Calls c =
     let p = c.args.self.now.cursor.pos in
     let due = c.args.self.now.due in
     let s = c.in-Some.section in
-    let h : HeadRead f p due s = subst (Headed f p due) c.in-Some.is c.in_ok-head.ensures in
+    let h : HeadRead f p due s = subst (Headed f p due) c.in-Some.is c.in_ok-section.ensures in
     let t : letter_of s ≡ 67 = ap letter_of c.in-Calls.is in
     let r = err_from_is_err_and c.from_residual-in_err-calls-in-Calls.result c.from_residual-in_err-calls-in-Calls.ensures.1 in
     let b = c.in_err-calls-in-Calls.ensures in
@@ -49,7 +49,7 @@ returns c =
     let ts = tasks c.args.table.now in
     let s = c.in-Some.section in
     let n : ℕ = length c.body.result.now in
-    let h : HeadRead f p due s = subst (Headed f p due) c.in-Some.is c.in_ok-head.ensures in
+    let h : HeadRead f p due s = subst (Headed f p due) c.in-Some.is c.in_ok-section.ensures in
     let long : p + 3 + n ≡ p + 3 + length (body_of s) = ap (λ k. p + 3 + length k) c.body.ensures in
     elim c.match-section.branch [
       | in-Table+in_ok-rows-in-Table w ↦

@@ -3,7 +3,7 @@ use Rattle.std.proofs.Common.{◌≡◌, ℕ, ◌+◌, ◌≤◌, List, [], ◌�
 use borrow.Rule.Slice.PartMut.{put_mid}
 use Rattle.std.proofs.lemmas.List.{append_assoc, length-append, length-take-le, take_all, take_at, drop_at, drop-drop, length-drop, append-nil, take-append-drop, take_more, set_at}
 use Rattle.std.proofs.lemmas.Slice.{put_mid-paste}
-use Rattle.line_text.specs.Areas.{placed}
+use Rattle.areas.specs.Areas.{placed}
 
 pub put_placed : (area bytes now : List ℕ) (p n : ℕ) → now ≡ bytes → n ≡ length bytes → put_mid p n area now ≡ placed area p bytes
 put_placed area bytes now p n e l =

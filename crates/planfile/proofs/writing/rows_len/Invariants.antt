@@ -1,8 +1,0 @@
-use Rattle.std.proofs.Common.{◌≡◌, length, take}
-use Rattle.std.specs.List.{flat_map}
-use Rattle.plan.specs.Views.{tasks}
-use Rattle.file_reader.specs.Grammar.{row_bytes}
-use Rattle.planfile.proofs.writing.rows_len.Given as goal
-
-abbrev pub invariant-loop-i : goal.invariant-loop-i
-invariant-loop-i l = l.len ≡ length (flat_map row_bytes (take l.i (tasks l.table)))
