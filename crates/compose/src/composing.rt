@@ -6,21 +6,14 @@ use std::alloc::Global;
 // The bytes of the plan file that a text describes.
 pub(crate) fn compose(heap: Global, text: &str) -> Result<Vec<u8>, BadLine> {
     let mut draft = Draft::new(heap);
-    let mut number = 1usize;
-    for line in text.lines() {
-        if let Err(reason) = draft.line(line) {
-            return Err(BadLine {
-                line: number,
-                reason,
-            });
-        }
-        number = number.saturating_add(1);
-    }
-    match draft.file(heap) {
-        Ok(file) => Ok(file),
-        Err(reason) => Err(BadLine {
-            line: number,
+    for (at, line) in text.lines().enumerate() {
+        draft.line(line).map_err(|reason| BadLine {
+            line: at.saturating_add(1),
             reason,
-        }),
+        })?;
     }
+    draft.file(heap).map_err(|reason| BadLine {
+        line: text.lines().count().saturating_add(1),
+        reason,
+    })
 }

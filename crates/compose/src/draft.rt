@@ -21,14 +21,9 @@ pub struct Draft {
 // The task that has this name, if there is one.
 fn named(table: &Table, name: &str) -> Result<Option<u8>, Reason> {
     let mut found = None;
-    for task in 0..table.count() {
-        if let Some(row) = table.row(task) {
-            if row.name().as_bytes() == name.as_bytes() {
-                if found.is_some() {
-                    return Err(Reason::SomeTasks);
-                }
-                found = Some(task);
-            }
+    for (task, row) in (0u8..).zip(table.rows()) {
+        if row.name().as_str() == name && found.replace(task).is_some() {
+            return Err(Reason::SomeTasks);
         }
     }
     Ok(found)
@@ -57,10 +52,8 @@ impl Draft {
         }
         let (budget, rest) = long(fields)?;
         let (period, name) = long(rest)?;
-        match self.table.add(budget, period, name.as_bytes()) {
-            Ok(()) => Ok(()),
-            Err(refusal) => Err(Reason::Row(refusal)),
-        }
+        self.table.add(budget, period, name.as_bytes())?;
+        Ok(())
     }
 
     // A task by its name, else by its number. That no task has the number is for the runner to say.
@@ -113,12 +106,8 @@ impl Draft {
     pub(crate) fn file(&self, heap: Global) -> Result<Vec<u8>, Reason> {
         let settings = self.given.whole()?;
         let mut file = vec![in heap; 0; LONGEST_FILE]?;
-        match write(&self.table, settings, self.calls.as_slice(), &mut file) {
-            Ok(len) => {
-                file.truncate(len);
-                Ok(file)
-            }
-            Err(refusal) => Err(Reason::File(refusal)),
-        }
+        let len = write(&self.table, settings, self.calls.as_slice(), &mut file)?;
+        file.truncate(len);
+        Ok(file)
     }
 }

@@ -6,10 +6,8 @@ pub(crate) fn field(line: &str) -> Result<(&str, &str), Reason> {
     if line.is_empty() {
         return Err(Reason::TooFew);
     }
-    match line.split_once([' ', '\t']) {
-        Some((field, rest)) => Ok((field, rest.trim_ascii_start())),
-        None => Ok((line, "")),
-    }
+    let (field, rest) = line.split_once([' ', '\t']).unwrap_or((line, ""));
+    Ok((field, rest.trim_ascii_start()))
 }
 
 // The one field that a line is.
@@ -20,7 +18,8 @@ pub(crate) fn only(line: &str) -> Result<&str, Reason> {
     }
 }
 
-// The number that a field spells; one that has no room in 64 bits counts as the greatest.
+// The number that a field spells; one that has no room in 64 bits counts as the greatest. No `parse`: that would take a sign, and say
+// nothing of how great a number is that has no room.
 pub(crate) fn number(field: &str) -> Result<u64, Reason> {
     let mut number = 0u64;
     for byte in field.bytes() {
@@ -34,17 +33,12 @@ pub(crate) fn number(field: &str) -> Result<u64, Reason> {
 }
 
 pub(crate) fn byte(field: &str) -> Result<u8, Reason> {
-    match u8::try_from(number(field)?) {
-        Ok(byte) => Ok(byte),
-        Err(_) => Err(Reason::AboveByte),
-    }
+    u8::try_from(number(field)?).map_err(|_| Reason::AboveByte)
 }
 
 // The number of the first field, and what follows from the next one on.
 pub(crate) fn long(line: &str) -> Result<(u32, &str), Reason> {
     let (word, rest) = field(line)?;
-    match u32::try_from(number(word)?) {
-        Ok(long) => Ok((long, rest)),
-        Err(_) => Err(Reason::AboveLong),
-    }
+    let long = u32::try_from(number(word)?).map_err(|_| Reason::AboveLong)?;
+    Ok((long, rest))
 }

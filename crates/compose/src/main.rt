@@ -9,7 +9,6 @@ mod fields;
 mod given;
 #[cfg(test)]
 mod tests;
-mod words;
 
 use composing::compose;
 use std::io::{Read, Write};
@@ -22,25 +21,16 @@ fn input(rt: &HostRuntime) -> anyhow::Result<String> {
     Ok(String::from_utf8_lossy(rt.alloc(), &bytes)?)
 }
 
-// Writes the plan file, or says which line is at fault; whether it was the file.
-fn run(rt: &HostRuntime) -> anyhow::Result<bool> {
-    match compose(rt.alloc(), input(rt)?.as_str()) {
+// Writes the plan file, or says which line is at fault: the line says all, and the status says that there is no file.
+fn main(rt: HostRuntime) -> anyhow::Result<ExitCode> {
+    match compose(rt.alloc(), input(&rt)?.as_str()) {
         Ok(file) => {
             rt.stdout().write_all(&file)?;
-            Ok(true)
+            Ok(ExitCode::SUCCESS)
         }
         Err(bad) => {
             eprintln!(rt; "{bad}")?;
-            Ok(false)
+            Ok(ExitCode::FAILURE)
         }
-    }
-}
-
-fn main(rt: HostRuntime) -> anyhow::Result<ExitCode> {
-    if run(&rt)? {
-        Ok(ExitCode::SUCCESS)
-    } else {
-        // The line that was printed says all; the status says that there is no file.
-        Ok(ExitCode::FAILURE)
     }
 }

@@ -235,30 +235,22 @@ static CASES: [Case; 6] = [
     },
 ];
 
-fn same(a: Settings, b: Settings) -> bool {
-    a.processors == b.processors && a.delta == b.delta && a.letter == b.letter
-}
-
-fn is_row(row: Row, budget: u32, period: u32, name: &str) -> bool {
-    row.budget() == budget && row.period() == period && row.name().as_bytes() == name.as_bytes()
+fn is_row(row: &Row, budget: u32, period: u32, name: &str) -> bool {
+    row.budget() == budget && row.period() == period && row.name().as_str() == name
 }
 
 fn has_rows(table: &Table, rows: &[(u32, u32, &str)]) -> bool {
-    let mut task = 0u8;
-    for (budget, period, name) in rows {
-        match table.row(task) {
-            Some(row) if is_row(row, *budget, *period, name) => task = task.saturating_add(1),
-            _ => return false,
-        }
-    }
-    table.count() == task
+    table.rows().len() == rows.len()
+        && table.rows().iter().zip(rows).all(|(row, (budget, period, name))| is_row(
+            row, *budget, *period, name,
+        ))
 }
 
 fn holds(file: &[u8], case: &Case) -> bool {
     let mut table = Table::new();
     match read(file, &mut table) {
         Ok(contents) => {
-            same(contents.settings, case.settings)
+            contents.settings == case.settings
                 && contents.calls == case.calls
                 && has_rows(&table, case.rows)
         }
