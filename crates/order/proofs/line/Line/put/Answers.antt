@@ -5,8 +5,8 @@ use Rattle.order.proofs.Lining.{put_held, put_spare, put_room}
 use Rattle.order.proofs.Placement.{placed_stands, placed_sorted}
 use Rattle.order.proofs.line.Line.put.Goals as goal
 
-pub invariant_of-self-2-clause-sorted : goal.invariant_of-self-2-clause-sorted
-invariant_of-self-2-clause-sorted g c =
+pub invariant_of-self-clause-sorted : goal.invariant_of-self-clause-sorted
+invariant_of-self-clause-sorted g c =
     let less = g.T.Ranked.less in
     let x = c.args.x in
     let old = held c.args.self.now in

@@ -6,8 +6,8 @@ use Rattle.order.proofs.Lining.{taken_was, taken_held, taken_spare}
 use Rattle.order.proofs.Placement.{without_sorted}
 use Rattle.order.proofs.line.Line.take.Goals as goal
 
-pub invariant_of-self-2-clause-sorted : goal.invariant_of-self-2-clause-sorted
-invariant_of-self-2-clause-sorted g c =
+pub invariant_of-self-clause-sorted : goal.invariant_of-self-clause-sorted
+invariant_of-self-clause-sorted g c =
     let less = g.T.Ranked.less in
     let s = c.args.self.now.slots.now in
     let n = c.args.self.now.count in
