@@ -31,7 +31,7 @@ impl<'a, T: Ranked + Copy> Line<'a, T> {
     pub fn len(&self) -> usize
         ensures { result ≡ length (held self.now) }
     {
-        self.count
+        self.records().len()
     }
 
     // The records, in their order.
@@ -49,7 +49,7 @@ impl<'a, T: Ranked + Copy> Line<'a, T> {
         if self.count == self.slots.len() {
             return Err(LineRefusal::Full);
         }
-        insert_sorted(self.slots, self.count, x);
+        insert_sorted(&mut self.slots[..=self.count], x);
         self.count += 1;
         Ok(())
     }
@@ -62,7 +62,7 @@ impl<'a, T: Ranked + Copy> Line<'a, T> {
         if place >= self.count {
             return None;
         }
-        let x = remove_at(self.slots, self.count, place);
+        let x = remove_at(&mut self.slots[..self.count], place);
         self.count -= 1;
         Some(x)
     }
