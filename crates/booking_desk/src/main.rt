@@ -10,6 +10,7 @@ use order::line::Line;
 use std::io;
 
 // Puts bookings in one after another, as long as there is room, and says how many went in.
+// A loop, and no `position`: its closure would change the line, of which a proof then knows nothing (tried).
 fn put_all(line: &mut Line<'_, Booking>, wanted: &[Booking]) -> usize
     ensures slots { SameSlots line.old line.new }
     ensures count { result ≡ min (length wanted.now) (length (spare line.old)) }
@@ -48,29 +49,24 @@ fn sooner(area: &mut [Booking], a: Booking, b: Booking) -> Option<Booking>
 fn book(rt: &impl Print, line: &mut Line<'_, Booking>, task: u8, tick: u32) -> io::Result<()> {
     match line.put(Booking { tick, task }) {
         Ok(()) => println!(rt; "book task {task} for tick {tick}: booked"),
-        Err(refusal) => {
-            let number = refusal.number();
-            println!(rt; "book task {task} for tick {tick}: refused {number}")
-        }
+        Err(refusal) => println!(rt;
+            "book task {task} for tick {tick}: refused {}",
+            refusal.number()
+        ),
     }
 }
 
 // Says for which tick a task is booked next.
 fn ask(rt: &impl Print, line: &Line<'_, Booking>, task: u8) -> io::Result<()> {
     match line.earliest_of(task) {
-        Some(booking) => {
-            let tick = booking.tick;
-            println!(rt; "earliest of task {task}: tick {tick}")
-        }
+        Some(Booking { tick, .. }) => println!(rt; "earliest of task {task}: tick {tick}"),
         None => println!(rt; "earliest of task {task}: none"),
     }
 }
 
 // Hands out what is due at a clock, until nothing is.
 fn hand_out(rt: &impl Print, line: &mut Line<'_, Booking>, clock: u32) -> io::Result<()> {
-    while let Some(booking) = line.take_due(clock) {
-        let task = booking.task;
-        let tick = booking.tick;
+    while let Some(Booking { tick, task }) = line.take_due(clock) {
         println!(rt; "clock {clock}: task {task}, booked for tick {tick}")?;
     }
     println!(rt; "clock {clock}: nothing due")
@@ -79,9 +75,7 @@ fn hand_out(rt: &impl Print, line: &mut Line<'_, Booking>, clock: u32) -> io::Re
 // Prints bookings in one row, each as its task and its tick.
 fn show(rt: &impl Print, title: &str, bookings: &[Booking]) -> io::Result<()> {
     print!(rt; "{title}:")?;
-    for booking in bookings {
-        let task = booking.task;
-        let tick = booking.tick;
+    for Booking { tick, task } in bookings {
         print!(rt; " {task}@{tick}")?;
     }
     println!(rt; "")
@@ -127,7 +121,7 @@ fn main(rt: HostRuntime) -> io::Result<()> {
         Booking { tick: 5, task: 0 },
     ];
     let many = timetable(&mut slots, &wanted);
-    show(&rt, "timetable", &slots[0..many])?;
+    show(&rt, "timetable", &slots[..many])?;
     if let Some(booking) = sooner(&mut slots, wanted[0], wanted[1]) {
         show(&rt, "sooner", &[booking])?;
     }

@@ -5,11 +5,7 @@ use Rattle.order.specs.declared.ranking.Ranked.{Ghosts}
 use Rattle.order.specs.declared.line.Line.{Line}
 use Rattle.order.specs.declared.line.LineRefusal.{LineRefusal}
 use Rattle.order.specs.Orders.{placed, without}
-use Rattle.order.specs.Lines.{held, spare, SameSlots, Put, Take}
-
--- two calls on one line
-pub same_slots : {X : Type 0} {g : Ghosts X} {old mid new : Line X g} → SameSlots old mid → SameSlots mid new → SameSlots old new
-same_slots p q = record { lent = q.lent ∙ p.lent; sized = q.sized ∙ p.sized }
+use Rattle.order.specs.Lines.{held, spare, Put, Take}
 
 module _ {X : Type 0} {g : Ghosts X} (old new : Line X g) where
   -- a put while a slot is free

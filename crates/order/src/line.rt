@@ -7,6 +7,7 @@ use crate::ranking::Ranked;
 mod calls;
 
 // Records of one kind in order, over slots of the caller's; the slots past the count keep what they hold.
+// Slots and a count, and no `Vec`: the list stands in memory that the caller hands over, and no library here has a heap.
 #[derive(Drop)]
 pub struct Line<'a, T: Ranked> {
     slots: &'a mut [T],

@@ -3,6 +3,7 @@ ghost use Rattle.std.specs.Prelude.{◌≡◌, ℕ, Bool, Option};
 ghost use Rattle.std.specs.Cmp.{IsStrictWeakOrder};
 
 // A kind of record with a total order. Records of which neither comes before the other are equals.
+// Not std's `Ord`: its laws want `==` of equals, and here they may be different records, as jobs that go by deadline alone.
 pub trait Ranked {
     ghost less: { Self → Self → Bool };
 

@@ -1,6 +1,5 @@
 -- Job tables: a new one, and what holds of one after another.
-use Rattle.std.proofs.Common.{◌≡◌, ℕ, zero, suc, ◌+◌, ◌<◌, ◌≤◌, List, [], ◌∷◌, length, get_or, set, replicate, unwrap_or, sym, refl, ap, ◌∙◌, subst, ⊎_elim, arith}
-use Rattle.std.specs.List.{slice_get}
+use Rattle.std.proofs.Common.{◌≡◌, ℕ, ◌+◌, ◌<◌, ◌≤◌, List, length, get_or, set, replicate, sym, ap, ◌∙◌, subst, ⊎_elim, arith}
 use Rattle.std.proofs.lemmas.List.{length-set, length-replicate, get_or-set_same, get_or-set_other, get_or-replicate, get_or_past}
 use Rattle.std.proofs.lemmas.Bool.{cases_eq, cases_lt}
 use Rattle.runner.specs.declared.job.Job.{Job}
@@ -12,12 +11,6 @@ pub record Placed (bins : List ℕ) (js : List Job) (n : ℕ) : Type 0 where
   pub bin : (i : ℕ) → i < n → (get_or js i none).bin ≡ get_or bins i 0
   pub deadlines : (i : ℕ) → (get_or js i none).deadline ≡ 0
   pub left : (i : ℕ) → (get_or js i none).left ≡ 0
-
--- what stands at a place, or 0 where nothing does
-pub or_zero : (xs : List ℕ) (i : ℕ) → unwrap_or (slice_get xs i) 0 ≡ get_or xs i 0
-or_zero [] i = refl
-or_zero (x ∷ xs) zero = refl
-or_zero (x ∷ xs) (suc i) = or_zero xs i
 
 pub placed_none : (bins : List ℕ) → Placed bins (replicate 64 none) 0
 placed_none bins =

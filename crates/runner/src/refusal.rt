@@ -5,30 +5,23 @@ ghost use Rattle.runner.specs.Refusals.{call_number};
 #[derive(Clone, Copy, PartialEq, Eq, Debug)]
 pub enum CallRefusal {
     // The runner has no task of this number.
-    NoSuchTask,
+    NoSuchTask = 6,
     // The row area is not as long as there are processors.
-    RowArea,
+    RowArea = 7,
     // There are fewer slots than unfinished jobs.
-    FewSlots,
+    FewSlots = 8,
     // The period since the task's last accepted request is not over.
-    TooEarly,
+    TooEarly = 22,
     // The task has no unfinished job.
-    NoJob,
+    NoJob = 23,
     // The clock is at its end.
-    ClockEnd,
+    ClockEnd = 24,
 }
 
 impl CallRefusal {
     pub fn number(self) -> u8
         ensures { result ≡ call_number self }
     {
-        match self {
-            CallRefusal::NoSuchTask => 6,
-            CallRefusal::RowArea => 7,
-            CallRefusal::FewSlots => 8,
-            CallRefusal::TooEarly => 22,
-            CallRefusal::NoJob => 23,
-            CallRefusal::ClockEnd => 24,
-        }
+        self as u8
     }
 }

@@ -3,5 +3,5 @@ use Rattle.order.specs.Lines.{held}
 use Rattle.booking_desk.proofs.hand_out.Given as goal
 
 -- each turn takes a booking out
-abbrev pub decreases-loop-booking : goal.decreases-loop-booking
-decreases-loop-booking g l = length (held l.line)
+abbrev pub decreases-loop-tick : goal.decreases-loop-tick
+decreases-loop-tick g l = length (held l.line)

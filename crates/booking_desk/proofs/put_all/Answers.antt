@@ -1,18 +1,14 @@
-use Rattle.std.proofs.Common.{◌≡◌, ℕ, ◌<◌, length, get_or, sym, refl, ◌∙◌, subst, arith}
+use Rattle.std.proofs.Common.{◌<◌, length, get_or, rules, sym, arith}
 use Rattle.order.specs.declared.booking.Booking.{Booking}
-use Rattle.order.proofs.Calls.{same_slots}
-use Rattle.booking_desk.proofs.Arranging.{SoFar, one_more, no_more}
+use Rattle.booking_desk.proofs.Arranging.{one_more, no_more}
 use Rattle.booking_desk.proofs.put_all.Goals as goal
-
-pub loop-i-init : goal.loop-i-init
-loop-i-init c = (record { records = refl; free = refl; within = omega arith }, record { lent = refl; sized = refl })
 
 pub loop-i-preserved : goal.loop-i-preserved
 loop-i-preserved c =
     let d : Booking = record { tick = 0; task = 0 } in
     let l : c.loop-i.i < length c.args.wanted.now = omega arith in (
       one_more c.args.line.now c.loop-i.line c.put.new.self c.args.wanted.now c.loop-i.i d c.put.result l (sym c.if-is_err.ensures.value) c.put.ensures.put c.loop-i.invariant.0,
-      same_slots c.loop-i.invariant.1 c.put.ensures.slots,
+      search rules,
     )
 
 pub returns-then-is_err : goal.returns-then-is_err
@@ -22,16 +18,8 @@ returns-then-is_err c =
     let h = no_more c.args.line.now c.loop-i.line c.put.new.self c.args.wanted.now c.loop-i.i b c.put.result (sym c.if-is_err.ensures.value) c.put.ensures.put c.loop-i.invariant.0 in
     let n = h.0 in
     record {
-      slots = same_slots c.loop-i.invariant.1 c.put.ensures.slots;
+      slots = search rules;
       count = omega arith;
       records = h.1.records;
       free = h.1.free;
     }
-
-pub returns : goal.returns
-returns c =
-    let e : c.loop-i.i ≡ length c.args.wanted.now = omega arith in
-    let At : ℕ → Type 0 = SoFar c.args.line.now c.loop-i.line c.args.wanted.now in
-    let h = subst At e c.loop-i.invariant.0 in
-    let w = h.within in
-    record { slots = c.loop-i.invariant.1; count = omega arith; records = h.records; free = h.free }

@@ -31,7 +31,7 @@ impl<'a, T: Ranked + Copy> Line<'a, T> {
     pub fn len(&self) -> usize
         ensures { result ≡ length (held self.now) }
     {
-        self.count
+        self.records().len()
     }
 
     // The records, in their order.
@@ -46,12 +46,11 @@ impl<'a, T: Ranked + Copy> Line<'a, T> {
         ensures slots { SameSlots self.old self.new }
         ensures put { Put x self.old self.new result }
     {
-        let Line { slots, count } = self;
-        if *count == slots.len() {
+        if self.count == self.slots.len() {
             return Err(LineRefusal::Full);
         }
-        insert_sorted(slots, *count, x);
-        *count += 1;
+        insert_sorted(&mut self.slots[..=self.count], x);
+        self.count += 1;
         Ok(())
     }
 
@@ -60,12 +59,11 @@ impl<'a, T: Ranked + Copy> Line<'a, T> {
         ensures slots { SameSlots self.old self.new }
         ensures taken { Take place self.old self.new result }
     {
-        let Line { slots, count } = self;
-        if place >= *count {
+        if place >= self.count {
             return None;
         }
-        let x = remove_at(slots, *count, place);
-        *count -= 1;
+        let x = remove_at(&mut self.slots[..self.count], place);
+        self.count -= 1;
         Some(x)
     }
 }

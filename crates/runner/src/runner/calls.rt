@@ -23,9 +23,10 @@ impl<L: Layout> Runner<L> {
         ensures fresh { Fresh (state_of result) }
         ensures promise { Fits (planned plan) (L.Layout.meaning layout) → Kept (work_of result) (L.Layout.meaning layout) (state_of result) }
     {
-        let tasks = match fits(&plan, &layout) {
-            Ok(()) => plan.tasks(),
-            Err(_) => 0,
+        let tasks = if fits(&plan, &layout).is_ok() {
+            plan.tasks()
+        } else {
+            0
         };
         let jobs = Jobs::of(&plan);
         Runner {
@@ -53,9 +54,7 @@ impl<L: Layout> Runner<L> {
         ensures requested { Requested (work_of self.old) (state_of self.old) task (answer result) (state_of self.new) }
         ensures same { SamePlan self.old self.new }
     {
-        let Some(row) = self.row(task) else {
-            return Err(CallRefusal::NoSuchTask);
-        };
+        let row = self.row(task).ok_or(CallRefusal::NoSuchTask)?;
         let job = self.jobs.get(task);
         if self.clock < job.deadline {
             return Err(CallRefusal::TooEarly);

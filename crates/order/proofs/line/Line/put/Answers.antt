@@ -5,8 +5,8 @@ use Rattle.order.proofs.Lining.{put_held, put_spare, put_room}
 use Rattle.order.proofs.Placement.{placed_stands, placed_sorted}
 use Rattle.order.proofs.line.Line.put.Goals as goal
 
-pub invariant_of-self-2-clause-sorted : goal.invariant_of-self-2-clause-sorted
-invariant_of-self-2-clause-sorted g c =
+pub invariant_of-self-clause-sorted : goal.invariant_of-self-clause-sorted
+invariant_of-self-clause-sorted g c =
     let less = g.T.Ranked.less in
     let x = c.args.x in
     let old = held c.args.self.now in
@@ -18,15 +18,15 @@ returns-clause-put g c =
     let less = g.T.Ranked.less in
     let x = c.args.x in
     let s = c.args.self.now.slots.now in
-    let t = c.insert_sorted.new.slots in
+    let m = c.insert_sorted.new.slots in
     let n = c.args.self.now.count in
     let l : n < length s = omega arith in
     let is = c.insert_sorted.ensures in
     let old = held c.args.self.now in
-    let new = put_held less x s t n l is in
+    let new = put_held less x s m n l is in
     record {
-      room = put_room less x s t n l is;
+      room = put_room less x s m n l is;
       records = new;
-      free = put_spare less x s t n l is;
+      free = put_spare less x s m n l is;
       stands = subst (Stands less x old) (sym new) (placed_stands less g.met.T.Ranked.ranks x old c.args.self.now.sorted);
     }

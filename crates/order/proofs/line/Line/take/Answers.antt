@@ -6,8 +6,8 @@ use Rattle.order.proofs.Lining.{taken_was, taken_held, taken_spare}
 use Rattle.order.proofs.Placement.{without_sorted}
 use Rattle.order.proofs.line.Line.take.Goals as goal
 
-pub invariant_of-self-2-clause-sorted : goal.invariant_of-self-2-clause-sorted
-invariant_of-self-2-clause-sorted g c =
+pub invariant_of-self-clause-sorted : goal.invariant_of-self-clause-sorted
+invariant_of-self-clause-sorted g c =
     let less = g.T.Ranked.less in
     let s = c.args.self.now.slots.now in
     let n = c.args.self.now.count in
@@ -22,7 +22,7 @@ invariant_of-self-2-clause-sorted g c =
 pub returns-clause-taken : goal.returns-clause-taken
 returns-clause-taken g c =
     let s = c.args.self.now.slots.now in
-    let t = c.remove_at-x.new.slots in
+    let m = c.remove_at-x.new.slots in
     let n = c.args.self.now.count in
     let i = c.args.place in
     let x = c.remove_at-x.result in
@@ -30,7 +30,7 @@ returns-clause-taken g c =
     let w : n ≤ length s = omega arith in
     let is = c.remove_at-x.ensures.after in
     record {
-      was = taken_was x s t n i l w is (c.remove_at-x.ensures.value x);
-      records = taken_held x s t n i l w is;
-      free = taken_spare x s t n i l w is;
+      was = taken_was x s m n i l w is (c.remove_at-x.ensures.value x);
+      records = taken_held x s m n i l w is;
+      free = taken_spare x s m n i l w is;
     }
