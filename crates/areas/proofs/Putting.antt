@@ -6,8 +6,8 @@ use Rattle.areas.specs.declared.pen.Pen.{Pen}
 use Rattle.areas.specs.Pens.{Puts}
 
 -- one after the other
-pub puts_then : (a b c : Pen) (xs ys : List ℕ) → Puts a xs b → Puts b ys c → Puts a (xs ++ ys) c
-puts_then a b c xs ys p q =
+pub puts_then : {a b c : Pen} {xs ys : List ℕ} → Puts a xs b → Puts b ys c → Puts a (xs ++ ys) c
+puts_then {a} {b} {c} {xs} {ys} p q =
     let both = length-append xs ys in
     record {
       lent = q.lent ∙ p.lent;

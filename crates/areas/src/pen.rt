@@ -7,6 +7,7 @@ pub struct Pen<'a> {
     area: &'a mut [u8],
     // Stops at the greatest usize, which is more than any area has.
     len: usize,
+    // True of every usize and every area; stated, since proofs of other crates do not see it from the fields' types.
     ghost counted: { len < 2 ^ 64 },
     ghost addressed: { length area.now < 2 ^ 63 },
 }

@@ -1,5 +1,5 @@
 -- The entries of a row, one by one.
-use Rattle.std.proofs.Common.{◌≡◌, ℕ, suc, ◌+◌, ◌*◌, ◌<◌, ◌≤◌, true, false, cond, eqb, List, [], ◌∷◌, ◌++◌, length, get_or, take, codes, sym, ap, ◌∙◌, arith}
+use Rattle.std.proofs.Common.{◌≡◌, ℕ, suc, ◌+◌, ◌*◌, ◌<◌, ◌≤◌, true, false, if◌then◌else◌, ◌==◌, List, [], ◌∷◌, ◌++◌, length, get_or, take, codes, sym, ap, ◌∙◌, arith}
 use Rattle.std.specs.List.{flat_map}
 use Rattle.std.proofs.lemmas.List.{length-append, take_more, flat_map_more}
 use Rattle.line_text.specs.Texts.{entry, field}
@@ -11,7 +11,7 @@ entries_more row i h = ap (flat_map entry) (take_more row i 0 h) ∙ sym (flat_m
 
 -- a byte has three digits at most
 entry_short : (e : ℕ) → e < 256 → length (entry e) ≤ 4
-entry_short e h = elim (eqb e 255) as (λ idle. length (cond idle (codes " -") (field " " e)) ≤ 4) [ true ↦ omega arith | false ↦ omega (arith, few_digits 3 e (omega arith) (omega arith)) ]
+entry_short e h = elim (e == 255) as (λ idle. length (if idle then codes " -" else field " " e) ≤ 4) [ true ↦ omega arith | false ↦ omega (arith, few_digits 3 e (omega arith) (omega arith)) ]
 
 pub entries_short : (row : List ℕ) → ((i : ℕ) → get_or row i 0 < 256) → length (flat_map entry row) ≤ 4 * length row
 entries_short [] h = omega arith

@@ -1,5 +1,5 @@
 -- How long a line can be.
-use Rattle.std.proofs.Common.{◌≡◌, ℕ, ◌+◌, ◌*◌, ◌^◌, ◌<◌, ◌≤◌, List, [], ◌∷◌, ◌++◌, length, Some, None, Option, refl, arith}
+use Rattle.std.proofs.Common.{◌≡◌, ℕ, ◌+◌, ◌*◌, ◌^◌, ◌<◌, ◌≤◌, List, [], ◌∷◌, ◌++◌, length, Some, None, Option, sym, refl, subst, arith}
 use Rattle.std.specs.Option.{ForSome}
 use Rattle.std.specs.List.{flat_map}
 use Rattle.std.proofs.lemmas.List.{length-append}
@@ -47,7 +47,7 @@ answered_short None h = omega arith
 answered_short (Some n) h = omega (arith, byte n (h n refl))
 
 -- the longest has `tick `, ten digits, 16 entries of four bytes and the end
-pub short : (l : Line) → Typed l → Short 80 l
+short : (l : Line) → Typed l → Short 80 l
 short (Plan slot bins) t h = omega (arith, two_long (field "slot " slot) (field " bins " bins), word slot t.0, byte bins t.1)
 short (Bin bin load reserve) t h =
     omega (arith, length-append (field "bin " bin) (ended (field " load " load ∷ field " reserve " reserve ∷ [])), two_long (field " load " load) (field " reserve " reserve), byte bin t.0, word load t.1, word reserve t.2)
@@ -58,3 +58,6 @@ short (End clock) t h = omega (arith, one_long (field "end " clock), word clock 
 short (FileRefused n at) t h = omega (arith, two_long (field "refused " n) (field " at " at), byte n t.0, place at t.1)
 short (RowRefused n row) t h = omega (arith, two_long (field "refused " n) (field " at row " row), byte n t.0, place row t.1)
 short (Refused n) t h = omega (arith, one_long (field "refused " n), byte n t)
+
+pub short_as : {l k : Line} → l ≡ k → Typed k → Short 80 l
+short_as {l} {k} is t = subst (Short 80) (sym is) (short k t)

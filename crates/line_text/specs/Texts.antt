@@ -1,5 +1,5 @@
 -- The lines of a listing, by their bytes.
-use Rattle.std.specs.Prelude.{ℕ, ◌≤◌, cond, List, [], ◌∷◌, ◌++◌, length, codes, Some, None, Option, ◌==◌}
+use Rattle.std.specs.Prelude.{ℕ, ◌≤◌, if◌then◌else◌, List, [], ◌∷◌, ◌++◌, length, codes, Some, None, Option, ◌==◌}
 use Prim.Native.String.{String}
 use Rattle.std.specs.List.{flat_map}
 use Rattle.line_text.specs.declared.line.Asked.{Asked}
@@ -14,7 +14,7 @@ field word n = codes word ++ digits n
 
 -- a processor runs a task or is idle
 abbrev pub entry : ℕ → List ℕ
-entry e = cond (e == 255) (codes " -") (field " " e)
+entry e = if e == 255 then codes " -" else field " " e
 
 abbrev pub called : Asked → ℕ → List ℕ
 called Request task = field "request " task

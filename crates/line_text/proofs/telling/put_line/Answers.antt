@@ -1,7 +1,6 @@
-use Rattle.std.proofs.Common.{sym, ap, subst, rules}
-use Rattle.line_text.specs.declared.line.Line.TheVariants.{Plan, Bin, Tick, TickRefused, Answer, End, FileRefused, RowRefused, Refused}
-use Rattle.line_text.specs.Texts.{text, Short}
-use Rattle.line_text.proofs.Lengths.{short}
+use Rattle.std.proofs.Common.{ap, rules}
+use Rattle.line_text.specs.Texts.{text}
+use Rattle.line_text.proofs.Lengths.{short_as}
 use Rattle.line_text.proofs.Told.{told_one, told_two, told_three}
 use Rattle.line_text.proofs.telling.put_line.Goals.{in-Plan, in-Bin, in-Tick, in-TickRefused, in-Answer, in-End, in-FileRefused, in-RowRefused, in-Refused}
 use Rattle.line_text.proofs.telling.put_line.Goals as goal
@@ -23,13 +22,13 @@ returns-clause-told c =
 pub returns-clause-short : goal.returns-clause-short
 returns-clause-short c =
     elim c.match-line.branch [
-      | in-Plan w ↦ subst (Short 80) (sym w.in-Plan.is) (short (Plan w.in-Plan.slot w.in-Plan.bins) (search rules, search rules))
-      | in-Bin w ↦ subst (Short 80) (sym w.in-Bin.is) (short (Bin w.in-Bin.bin w.in-Bin.load w.in-Bin.reserve) (search rules, search rules, search rules))
-      | in-Tick w ↦ subst (Short 80) (sym w.in-Tick.is) (short (Tick w.in-Tick.clock w.in-Tick.row) (search rules, w.put_row.ensures.short))
-      | in-TickRefused w ↦ subst (Short 80) (sym w.in-TickRefused.is) (short (TickRefused w.in-TickRefused.number) (search rules))
-      | in-Answer w ↦ subst (Short 80) (sym w.in-Answer.is) (short (Answer w.in-Answer.asked w.in-Answer.task w.in-Answer.refusal) (search rules, search rules))
-      | in-End w ↦ subst (Short 80) (sym w.in-End.is) (short (End w.in-End.clock) (search rules))
-      | in-FileRefused w ↦ subst (Short 80) (sym w.in-FileRefused.is) (short (FileRefused w.in-FileRefused.number w.in-FileRefused.at) (search rules, search rules))
-      | in-RowRefused w ↦ subst (Short 80) (sym w.in-RowRefused.is) (short (RowRefused w.in-RowRefused.number w.in-RowRefused.row) (search rules, search rules))
-      | in-Refused w ↦ subst (Short 80) (sym w.in-Refused.is) (short (Refused w.in-Refused.number) (search rules))
+      | in-Plan w ↦ short_as w.in-Plan.is (search rules, search rules)
+      | in-Bin w ↦ short_as w.in-Bin.is (search rules, search rules, search rules)
+      | in-Tick w ↦ short_as w.in-Tick.is (search rules, w.put_row.ensures.short)
+      | in-TickRefused w ↦ short_as w.in-TickRefused.is (search rules)
+      | in-Answer w ↦ short_as w.in-Answer.is (search rules, search rules)
+      | in-End w ↦ short_as w.in-End.is (search rules)
+      | in-FileRefused w ↦ short_as w.in-FileRefused.is (search rules, search rules)
+      | in-RowRefused w ↦ short_as w.in-RowRefused.is (search rules, search rules)
+      | in-Refused w ↦ short_as w.in-Refused.is (search rules)
     ]

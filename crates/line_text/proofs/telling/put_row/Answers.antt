@@ -1,4 +1,4 @@
-use Rattle.std.proofs.Common.{get_or, take, sym, subst, arith}
+use Rattle.std.proofs.Common.{sym, subst, arith}
 use Rattle.std.specs.List.{flat_map}
 use Rattle.std.proofs.lemmas.List.{take_all}
 use Rattle.areas.specs.Pens.{Puts}
@@ -12,9 +12,7 @@ loop-task-init c = puts_nothing c.args.pen.now
 
 pub loop-task-preserved : goal.loop-task-preserved
 loop-task-preserved c =
-    let row = c.args.row.now in
-    let i = c.loop-task.task-index in
-    subst (λ bs. Puts c.args.pen.now bs c.put_entry.new.pen) (sym (entries_more row i (omega arith))) (puts_then c.args.pen.now c.loop-task.pen c.put_entry.new.pen (flat_map entry (take i row)) (entry (get_or row i 0)) c.loop-task.invariant c.put_entry.ensures)
+    subst (λ bs. Puts c.args.pen.now bs c.put_entry.new.pen) (sym (entries_more c.args.row.now c.loop-task.task-index (omega arith))) (puts_then c.loop-task.invariant c.put_entry.ensures)
 
 pub returns-clause-told : goal.returns-clause-told
 returns-clause-told c =
