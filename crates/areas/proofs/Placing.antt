@@ -1,7 +1,7 @@
 -- Bytes placed in an area, one piece after the other.
-use Rattle.std.proofs.Common.{◌≡◌, ℕ, ◌+◌, ◌≤◌, List, [], ◌∷◌, ◌++◌, length, get_or, take, drop, set, sym, refl, ap, ◌∙◌, arith}
+use Rattle.std.proofs.Common.{◌≡◌, ℕ, ◌+◌, ◌≤◌, List, [], ◌++◌, length, take, drop, sym, refl, ap, ◌∙◌, arith}
 use borrow.Rule.Slice.PartMut.{put_mid}
-use Rattle.std.proofs.lemmas.List.{append_assoc, length-append, length-take-le, take_all, take_at, drop_at, drop-drop, length-drop, append-nil, take-append-drop, take_more, set_at}
+use Rattle.std.proofs.lemmas.List.{append_assoc, length-append, length-take-le, take_all, take_at, drop_at, drop-drop, length-drop, append-nil, take-append-drop}
 use Rattle.std.proofs.lemmas.Slice.{put_mid-paste}
 use Rattle.areas.specs.Areas.{placed}
 
@@ -30,24 +30,3 @@ pub placed_nothing : (area : List ℕ) (p : ℕ) → placed area p [] ≡ area
 placed_nothing area p =
     let same : p + 0 ≡ p = omega arith in
     ap (λ l. l ++ drop (p + 0) area) (append-nil (take p area)) ∙ ap (λ n. take p area ++ drop n area) same ∙ take-append-drop p area
-
--- one byte in front of what is placed
-pub placed_before : (area xs : List ℕ) (p b : ℕ) → p + 1 + length xs ≤ length area → set (placed area (p + 1) xs) p b ≡ placed area p (b ∷ xs)
-placed_before area xs p b h =
-    let rest = drop (p + 1 + length xs) area in
-    let split : placed area (p + 1) xs ≡ take p area ++ get_or area p 0 ∷ (xs ++ rest) =
-    ap (λ l. l ++ xs ++ rest) (take_more area p 0 (omega arith)) ∙ ap (λ l. l ++ rest) (append_assoc (take p area) (get_or area p 0 ∷ []) xs) ∙ append_assoc (take p area) (get_or area p 0 ∷ xs) rest in
-    let same : drop (p + length (b ∷ xs)) area ≡ rest = ap (λ n. drop n area) (omega arith) in
-    ap (λ l. set l p b) split ∙ set_at (take p area) (get_or area p 0) (xs ++ rest) b p (length-take-le p area (omega arith)) ∙ sym (append_assoc (take p area) (b ∷ xs) (drop (p + length (b ∷ xs)) area) ∙ ap (λ l. take p area ++ b ∷ (xs ++ l)) same)
-
--- four pieces from the begin on
-pub four_placed : (a a₁ a₂ a₃ a₄ x y z w : List ℕ) (p q r : ℕ) → a₁ ≡ placed a 0 x → a₂ ≡ placed a₁ p y → a₃ ≡ placed a₂ q z → a₄ ≡ placed a₃ r w → p ≡ 0 + length x → q ≡ p + length y → r ≡ q + length z → length (x ++ (y ++ (z ++ w))) ≤ length a → a₄ ≡ placed a 0 (x ++ (y ++ (z ++ w)))
-four_placed a a₁ a₂ a₃ a₄ x y z w p q r e₁ e₂ e₃ e₄ at_y at-z at-w h =
-    let zw = length-append z w in
-    let yzw = length-append y (z ++ w) in
-    let xyzw = length-append x (y ++ (z ++ w)) in
-    let xy = length-append x y in
-    let xyz = length-append (x ++ y) z in
-    let two = placed_then a a₁ a₂ x y 0 p e₁ e₂ at_y (omega arith) in
-    let three = placed_then a a₂ a₃ (x ++ y) z 0 q two e₃ (omega arith) (omega arith) in
-    placed_then a a₃ a₄ (x ++ y ++ z) w 0 r three e₄ (omega arith) (omega arith) ∙ ap (placed a 0) (append_assoc (x ++ y) z w ∙ append_assoc x y (z ++ w))

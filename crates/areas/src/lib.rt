@@ -1,2 +1,6 @@
-// Bytes placed in an area of the caller's: definitions and proofs for the crates that write, no program code.
+// Bytes put into an area of the caller's, for the crates that write.
 #![tactic(auto)]
+
+pub mod pen;
+
+pub use pen::Pen;

@@ -31,7 +31,7 @@ lead (suc n) e =
     let same = ap (λ l. get_or l 0 0) (figures_some (suc n) (omega arith)) in
     absurd (omega (arith, first, same, first_digits_of 10 (suc n) (omega arith) (omega arith)))
 
-decimal_digits : (n : ℕ) → n < 2 ^ 64 → decimal n ≡ digits n
+pub decimal_digits : (n : ℕ) → n < 2 ^ 64 → decimal n ≡ digits n
 unfolding digits
 decimal_digits zero h = decimal_digit 0 (omega arith)
 decimal_digits (suc n) h = decimal-digits_of (suc n) (omega arith) h

@@ -1,5 +1,5 @@
 pub mod Entries
 pub mod Lawful
 pub mod Lengths
-pub mod Pieced
 pub mod Spelled
+pub mod Told

@@ -1,9 +1,8 @@
 -- Digits, one by one.
-use Rattle.std.proofs.Common.{◌≡◌, ℕ, zero, suc, ◌+◌, ◌/◌, ◌%◌, ◌^◌, ◌<◌, ◌≤◌, List, [], ◌∷◌, map, length, get_or, take, sym, refl, ap, ◌∙◌, arith}
+use Rattle.std.proofs.Common.{◌≡◌, ℕ, zero, suc, ◌+◌, ◌/◌, ◌^◌, ◌<◌, ◌≤◌, List, [], ◌∷◌, map, length, refl, ap, ◌∙◌, arith}
 use Rattle.std.specs.Int.Digits.{digits_of, number_from_digits, AllBelowBase}
-use Rattle.std.proofs.lemmas.Int.Digits.{length-digits_of_step, length-digits_of-le, all_below_base_digits_of, number_more, number_digits_of}
-use Rattle.std.proofs.ByRecursion.{All-get_or}
-use Rattle.std.proofs.lemmas.List.{length-map, get_or-map}
+use Rattle.std.proofs.lemmas.Int.Digits.{length-digits_of_step, length-digits_of-le, all_below_base_digits_of, number_digits_of}
+use Rattle.std.proofs.lemmas.List.{length-map}
 use Rattle.line_text.specs.Decimals.{digits}
 
 -- the digits as numbers below ten; zero has the one digit 0
@@ -41,11 +40,6 @@ one_digit (suc n) h =
     let none : suc n / 10 ≡ 0 = omega arith in
     length-map (digits_of 10 (suc n)) (λ d. 48 + d) ∙ length-digits_of_step 10 (suc n) (omega arith) (omega arith) ∙ ap (λ q. length (digits_of 10 q) + 1) none
 
-pub more_digits : (n : ℕ) → 10 ≤ n → length (digits n) ≡ length (digits (n / 10)) + 1
-more_digits n h =
-    let front : 0 < n / 10 = omega arith in
-    length_figures n ∙ ap length (figures_some n (omega arith)) ∙ length-digits_of_step 10 n (omega arith) (omega arith) ∙ ap (λ l. length l + 1) (sym (figures_some (n / 10) front)) ∙ ap (λ k. k + 1) (sym (length_figures (n / 10)))
-
 pub few_digits : (k n : ℕ) → 0 < k → n < 10 ^ k → length (digits n) ≤ k
 unfolding digits
 few_digits k zero some h = some
@@ -55,11 +49,3 @@ pub some_digits : (n : ℕ) → 0 < length (digits n)
 unfolding digits
 some_digits zero = omega arith
 some_digits (suc n) = omega (arith, length-map (digits_of 10 (suc n)) (λ d. 48 + d), length-digits_of_step 10 (suc n) (omega arith) (omega arith))
-
--- the digit at a place, where v is what the digits up to it say
-pub digit_at : (n k v : ℕ) → k < length (digits n) → v ≡ number_from_digits 10 (take (k + 1) (figures n)) → (get_or (digits n) k 0 ≡ 48 + v % 10) × (v / 10 ≡ number_from_digits 10 (take k (figures n)))
-digit_at n k v h e =
-    let more = number_more 10 (figures n) k (omega (arith, length_figures n)) in
-    let small = All-get_or (λ d. d < 10) (figures n) k 0 (omega (arith, length_figures n)) (under_figures n) in
-    let same = ap (λ l. get_or l k 0) (digits_figures n) ∙ get_or-map (λ d. 48 + d) (figures n) k 0 0 (omega (arith, length_figures n)) in
-    (omega (arith, same, e, more, small), omega (arith, e, more, small))

@@ -1,4 +1,3 @@
 pub mod Areas
 pub mod Decimals
 pub mod Texts
-pub mod Spellings

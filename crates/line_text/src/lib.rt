@@ -2,9 +2,7 @@
 #![tactic(auto)]
 
 pub mod line;
-mod measure;
-mod pen;
-mod piece;
+mod telling;
 pub mod writing;
 
 pub use line::{Asked, IDLE, Line};
