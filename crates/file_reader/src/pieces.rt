@@ -24,7 +24,6 @@ pub(crate) trait Pieces {
         requires some { cursor.old.pos < cursor.old.limit }
         requires inside { cursor.old.limit ≤ length file.now }
         ensures limit { cursor.new.limit ≡ cursor.old.limit }
-        ensures within { cursor.new.pos ≤ cursor.old.limit }
         ensures behind { OnOk result (cursor.old.pos < cursor.new.pos) }
         ensures taken { OnOk result ((start : ℕ) → whole file.now start cursor.old.pos self.old → whole file.now start cursor.new.pos self.new) }
         ensures broken { IfErr result (λ e. (start : ℕ) → whole file.now start cursor.old.pos self.old → broken file.now start cursor.old.limit e) };
