@@ -10,6 +10,5 @@ mod list;
 pub struct Calls<'a> {
     bytes: &'a [u8],
     cursor: Cursor,
-    ghost within: { cursor.pos ≤ cursor.limit },
     ghost whole: { cursor.limit ≡ length bytes.now },
 }

@@ -14,6 +14,7 @@ use plan::{RowRefusal, Table};
 pub(crate) struct Cursor {
     pub(crate) pos: usize,
     pub(crate) limit: usize,
+    ghost within: { pos ≤ limit },
 }
 
 // The number whose two bytes stand here.
@@ -31,7 +32,6 @@ impl Cursor {
         requires some { self.old.pos < self.old.limit }
         requires inside { self.old.limit ≤ length file.now }
         ensures limit { self.new.limit ≡ self.old.limit }
-        ensures within { self.new.pos ≤ self.old.limit }
         ensures read { MatchResult result
             (λ c. (call_fault file.now self.old.pos self.old.limit ≡ None)
             × (Stands file.now self.old.pos (call_bytes c)) × (Counts c)
@@ -93,7 +93,6 @@ impl Cursor {
         requires some { self.old.pos < self.old.limit }
         requires inside { self.old.limit ≤ length file.now }
         ensures limit { self.new.limit ≡ self.old.limit }
-        ensures within { self.new.pos ≤ self.old.limit }
         ensures read { MatchResult result
             (λ _. RowTaken file.now self.old.pos (tasks table.old) self.new.pos (tasks table.new))
             (λ e. (row_fault file.now self.old.pos self.old.limit (length (tasks table.old)) ≡ Some e)
@@ -127,6 +126,7 @@ impl Cursor {
 pub(crate) struct Narrowed<'a> {
     pub(crate) cursor: &'a mut Cursor,
     whole: usize,
+    ghost inside: { cursor.now.limit ≤ whole },
 }
 
 impl Drop for Narrowed<'_> {
@@ -143,6 +143,8 @@ impl Drop for Narrowed<'_> {
 }
 
 pub(crate) fn narrow<'a>(cursor: &'a mut Cursor, end: usize) -> Narrowed<'a>
+    requires some { cursor.old.pos ≤ end }
+    requires inside { end ≤ cursor.old.limit }
     ensures lent { result.cursor.ghost_name ≡ cursor.entry.ghost_name }
     ensures made { (result.whole ≡ cursor.old.limit) × (result.cursor.now.pos ≡ cursor.old.pos) × (result.cursor.now.limit ≡ end) }
 {

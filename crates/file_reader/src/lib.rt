@@ -6,6 +6,7 @@ mod cursor;
 pub mod heading;
 pub mod layout_kind;
 pub mod letters;
+mod pieces;
 pub mod reader;
 pub mod reading;
 pub mod rows;

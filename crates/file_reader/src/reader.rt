@@ -15,6 +15,5 @@ pub struct Reader<'a> {
     cursor: Cursor,
     due: Due,
     noted: bool,
-    ghost within: { cursor.pos ≤ cursor.limit },
     ghost whole: { cursor.limit ≡ length file.now },
 }

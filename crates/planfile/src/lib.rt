@@ -2,7 +2,7 @@
 // below, and so have the parts that both share; whoever uses plan files finds all of them here.
 #![tactic(auto)]
 
-mod pen;
+mod telling;
 pub mod writing;
 
 pub use file_parts::{Call, Fault, NotWritten, Section, SectionKind, Settings, UnknownLetter};

@@ -6,6 +6,7 @@ ghost use Rattle.file_reader.specs.Readers.{Headed, head_fault, Came, Sectioned,
 use super::Reader;
 use crate::cursor::word;
 use crate::letters::{has_turn, section_of};
+use crate::pieces::Tested;
 use file_parts::{Due, Fault, HEAD, Section, SectionKind};
 use plan::Table;
 
@@ -56,11 +57,11 @@ impl<'a> Reader<'a> {
         self.cursor.pos = start;
         match section {
             Section::Table { body: _, at: _ } => {
-                self.rows(end, table)?;
+                self.body(end, table)?;
                 self.due = Due::Calls;
             }
             Section::Calls { body: _, at: _ } => {
-                self.calls(end)?;
+                self.body(end, &mut Tested)?;
                 self.due = Due::Notes;
             }
             Section::Note { body: _, at: _ } => {

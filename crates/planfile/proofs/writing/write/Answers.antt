@@ -1,14 +1,14 @@
-use Rattle.std.proofs.Common.{◌≡◌, ◌+◌, true, false, ◌++◌, length, drop, sym, ap, ◌∙◌, arith, rules}
+use Rattle.std.proofs.Common.{◌≡◌, ◌+◌, ◌≤◌, true, false, ◌++◌, length, drop, sym, ap, ◌∙◌, arith, rules}
 use Rattle.std.proofs.lemmas.Result.{err_from_is_err_and}
 use Rattle.plan.specs.Views.{tasks}
+use Rattle.areas.specs.Areas.{placed}
 use Rattle.file_reader.specs.Grammar.{layout_letter}
 use Rattle.file_reader.specs.Meaning.{acceptance, written}
 use Rattle.file_reader.specs.Readers.{CallsWhole}
 use Rattle.planfile.specs.Writing.{IsNotWritten}
-use Rattle.planfile.proofs.FileWritten.{section_length, whole_read, same_bytes}
+use Rattle.planfile.proofs.FileWritten.{whole_read, same_bytes}
 use Rattle.file_reader.proofs.GoodRows.{tasks_taken}
 use Rattle.file_reader.proofs.OneMeaning.{only}
-use Rattle.file_reader.proofs.RoundTrip.{written_length}
 use Rattle.planfile.proofs.writing.write.Goals as goal
 
 pub returns-then-not-names_layout : goal.returns-then-not-names_layout
@@ -35,20 +35,11 @@ returns-then-area-len c =
     let h = c.args.settings in
     let ts = tasks c.args.table.now in
     let calls = c.args.calls.now in
-    let long : length (written h ts calls) ≡ c.file_len-len.result = written_length h ts calls ∙ omega (arith, c.rows_len-rows.ensures.is, c.file_len-len.ensures, section_length calls) in
     record {
-      written = (IsNotWritten.short_area (sym c.if-not-names_layout.ensures) c.in_ok-test_calls.ensures c.if-calls-gt-LONGEST_CALLS.false (omega (arith, long, c.if-area-len.true)), search rules);
+      written = (IsNotWritten.short_area (sym c.if-not-names_layout.ensures) c.in_ok-test_calls.ensures c.if-calls-gt-LONGEST_CALLS.false (omega (arith, c.measured-len.ensures, c.if-area-len.true)), search rules);
       back = tt;
       again = same_bytes h ts calls;
     }
-
-pub put_file-requires : goal.put_file-requires
-put_file-requires c =
-    let h = c.args.settings in
-    let ts = tasks c.args.table.now in
-    let calls = c.args.calls.now in
-    let long : length (written h ts calls) ≡ c.file_len-len.result = written_length h ts calls ∙ omega (arith, c.rows_len-rows.ensures.is, c.file_len-len.ensures, section_length calls) in
-    record { rows = c.rows_len-rows.ensures.is; calls = c.if-calls-gt-LONGEST_CALLS.false; room = omega (arith, long, c.if-area-len.false) }
 
 pub returns : goal.returns
 returns c =
@@ -58,16 +49,22 @@ returns c =
     let area = c.args.area.now in
     let letter : layout_letter h.letter ≡ true = sym c.if-not-names_layout.ensures in
     let whole : CallsWhole calls 0 (length calls) = c.in_ok-test_calls.ensures in
-    let long : length (written h ts calls) ≡ c.file_len-len.result = written_length h ts calls ∙ omega (arith, c.rows_len-rows.ensures.is, c.file_len-len.ensures, section_length calls) in
+    let w = written h ts calls in
+    let fits : c.new-pen.result.len + length w ≤ length c.new-pen.result.area.now = omega (arith, c.new-pen.ensures.none, ap length c.new-pen.ensures.whole, c.measured-len.ensures, c.if-area-len.false) in
+    let out : c.put_file.new.pen.area.now ≡ w ++ drop c.measured-len.result area =
+    c.put_file.ensures.written fits
+    ∙ ap (λ a. placed a c.new-pen.result.len w) c.new-pen.ensures.whole
+    ∙ ap (λ n. placed area n w) c.new-pen.ensures.none
+    ∙ ap (λ n. w ++ drop n area) (let n : 0 + length w ≡ c.measured-len.result = omega (arith, c.measured-len.ensures) in n) in
     let means = whole_read h ts calls letter (tasks_taken c.args.table.now) whole in
     record {
       written = record {
         letter = letter;
         whole = whole;
         short = c.if-calls-gt-LONGEST_CALLS.false;
-        long = sym long;
+        long = c.measured-len.ensures;
         room = c.if-area-len.false;
-        bytes = c.put_file.ensures ∙ ap (λ n. written h ts calls ++ drop n area) (let n : 0 + length (written h ts calls) ≡ c.file_len-len.result = omega (arith, long) in n);
+        bytes = search (rules, out);
       };
       back = (means, only (written h ts calls) (acceptance h ts calls false) means);
       again = same_bytes h ts calls;

@@ -83,7 +83,6 @@ returns-in-Ok c =
           let rest : length c.row.result.1.now ≡ e - p - (9 + get_or f (p + 8) 0) = ap length c.row.ensures.rest ∙ length-drop (row_used b) b ∙ ap (λ x. x - row_used b) (part_length f p e l w) ∙ ap (λ x. e - p - x) u in
           record {
             limit = search rules;
-            within = omega (arith, rest, m);
             read = record {
               task = task_at f p;
               stands = part_stands f p e l w (row_bytes (task_at f p)) (omega (arith, long, m)) (subst (λ x. Stands b 0 (row_bytes x)) t (c.row.ensures.spelled (ap fault_of c.row.ensures.is ∙ ap fault_of r)));
@@ -109,5 +108,5 @@ returns-in-Err c =
           let same = got_is f p c.row.result.0 (c.row.ensures.is ∙ r) in
           let bad = c.in-Err.ensures in
           let is = s k ∙ ap (row_told (p + 8) k) (subst (λ x. refused x k ≡ Some c.in-Err.refusal) same bad.0) ∙ subst (λ n. row_told (p + 8) n (Some c.in-Err.refusal) ≡ Some c.told.result) c.count-number.ensures c.told.ensures in
-          record { limit = search rules; within = search rules; read = (is, search rules) }
+          record { limit = search rules; read = (is, search rules) }
     ]

@@ -1,6 +1,0 @@
-use Rattle.std.proofs.Common.{rules}
-use Rattle.areas.proofs.Placing.{put_placed}
-use Rattle.planfile.proofs.pen.put.Goals as goal
-
-pub returns : goal.returns
-returns c = search (rules, put_placed)
