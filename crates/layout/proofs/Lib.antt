@@ -1,5 +1,4 @@
-pub mod Copying
 pub mod Plenty
-pub mod Starting
+pub mod Laying
 pub mod Serving
 pub mod Worked

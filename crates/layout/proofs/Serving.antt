@@ -1,64 +1,102 @@
--- The answers of the layouts by slots, case by case.
-use Rattle.std.proofs.Common.{◌≡◌, ℕ, suc, ◌+◌, ◌/◌, ◌<◌, ◌≤◌, Bool, true, false, cond, ltb, List, Some, None, Option, sym, refl, ap, ◌∙◌, arith}
-use Rattle.std.proofs.lemmas.Bool.{lt-ltb, le-ltb, cond-true, cond-false}
+-- The answers of the layouts by slots, from the places that shares give.
+use Rattle.std.proofs.Common.{◌≡◌, ℕ, zero, suc, ◌+◌, ◌-◌, ◌/◌, ◌<◌, ◌≤◌, Bool, true, false, cond, ltb, leb, List, length, Some, None, sym, refl, ap, ◌∙◌, ⊎_elim, zero-add, arith}
+use Rattle.std.specs.Bool.{then_some}
+use Rattle.std.specs.Option.{option_map}
+use Rattle.std.proofs.lemmas.Bool.{cases_order, cases_lt, lt-ltb, le-ltb, le-leb, lt-leb, cond-true, cond-false}
+use Rattle.std.proofs.lemmas.List.{get_or_past}
+use mathlib.Core.Path.{fun_ext}
 use Rattle.layout_laws.specs.Offset.{offset}
 use Rattle.layout_laws.specs.Meaning.{horizon, in_time}
-use Rattle.layout_laws.specs.Shares.{share}
+use Rattle.layout_laws.specs.Shares.{share, before}
 use Rattle.layout_laws.specs.Flat.{start, flat_serves}
-use Rattle.layout_laws.specs.Semi.{free, shared, find, own_serves, shared_serves, semi_serves}
-use Rattle.layout_laws.proofs.SemiLaws.{lent_serves}
-use Rattle.layout_laws.proofs.Supply.{in_range}
+use Rattle.layout_laws.specs.Semi.{free, shared, highest, own_serves, shared_serves, semi_start, semi_serves}
+use Rattle.layout_laws.proofs.FlatLaws.{Answered, answered, none_serves as flat_none}
+use Rattle.layout_laws.proofs.SemiLaws.{none_serves as semi_none}
+use Rattle.layout_laws.proofs.Supply.{timed}
+use Rattle.layout.specs.Shared.{position}
 
--- nobody is answered, within the range or not
-pub nobody : (t : ℕ) (o : Option ℕ) → o ≡ None → None ≡ in_time t o
-nobody t o e = sym (ap (in_time t) e ∙ none (ltb t horizon))
+-- a place that is answered where two tests pass, and what is made of it
+placed : (b c : Bool) (x : ℕ) (f : ℕ → ℕ) → option_map f (cond b (then_some c x) None) ≡ cond b (cond c (Some (f x)) None) None
+placed true true x f = refl
+placed true false x f = refl
+placed false c x f = refl
+
+placed_in_time : (S a r t : ℕ) (f : ℕ → ℕ) → option_map f (in_time t (position S a r t)) ≡ in_time t (cond (ltb (offset S a t) r) (Some (f (a + offset S a t))) None)
+placed_in_time S a r t f = placed (ltb t horizon) (ltb (offset S a t) r) (a + offset S a t) f
+
+-- with no processor to themselves, all bins share
+pub start_shared : (S : ℕ) (rs : List ℕ) (p : ℕ) → semi_start S 0 rs p ≡ start rs p
+start_shared S rs p =
+    let e : p - 0 ≡ p = omega arith in
+    cond-false (ltb p 0) (free S rs (suc p)) (shared 0 rs p) (le-ltb p 0 (omega arith)) ∙ ap (λ (f : ℕ → ℕ). before f (p - 0)) (fun_ext (λ i. ap (share rs) (zero-add i))) ∙ ap (before (share rs)) e
+
+-- no reserve, no answer
+past : (S a t p : ℕ) (rs : List ℕ) (f : ℕ → ℕ) → length rs ≤ p → option_map f (in_time t (position S a (share rs p) t)) ≡ in_time t None
+past S a t p rs f l =
+    placed_in_time S a (share rs p) t f ∙ ap (in_time t) (cond-false (ltb (offset S a t) (share rs p)) (Some (f (a + offset S a t))) None (le-ltb (offset S a t) (share rs p) (omega (arith, get_or_past rs p 0 l))))
+
+pub flat_placed : (S : ℕ) (rs : List ℕ) (t p a : ℕ) → (p < length rs → a ≡ start rs p) → option_map (λ x. x / S) (in_time t (position S a (share rs p) t)) ≡ in_time t (flat_serves S rs t p)
+flat_placed S rs t p a e = ⊎_elim here (λ l. past S a t p rs (λ x. x / S) l ∙ sym (ap (in_time t) (flat_none S rs t p l))) (cases_lt p (length rs))
   where
-    none : (b : Bool) → cond {A = Option ℕ} b None None ≡ None
-    none true = refl
-    none false = refl
+    here : p < length rs → option_map (λ x. x / S) (in_time t (position S a (share rs p) t)) ≡ in_time t (flat_serves S rs t p)
+    here l = ap (λ b. option_map (λ x. x / S) (in_time t (position S b (share rs p) t))) (e l) ∙ placed_in_time S (start rs p) (share rs p) t (λ x. x / S)
 
--- k is the offset of the tick from a, and a is where the bin starts
-module _ (S : ℕ) (rs : List ℕ) (t p a k : ℕ) (from : a ≡ start rs p) (is : k ≡ offset S a t) where
-  place : offset S (start rs p) t ≡ k
-  place = ap (λ x. offset S x t) (sym from) ∙ sym is
+-- the processor that answers: a bin's own, or the one that has its place
+abbrev pub server : (S m : ℕ) (rs : List ℕ) (p x : ℕ) → ℕ
+server S m rs p x = cond (ltb p m) p (highest (free S rs) x m)
 
-  pub flat_yes : t < horizon → k < share rs p → Some ((a + k) / S) ≡ in_time t (flat_serves S rs t p)
-  flat_yes far l =
-      let x : a + k ≡ start rs p + offset S (start rs p) t = omega (arith, from, place) in
-      ap (λ y. Some (y / S)) x
-      ∙ sym (cond-true (ltb (offset S (start rs p) t) (share rs p)) (Some ((start rs p + offset S (start rs p) t) / S)) None (lt-ltb (offset S (start rs p) t) (share rs p) (omega (arith, place))))
-      ∙ sym (in_range t (flat_serves S rs t p) far)
+pub semi_placed : (S m : ℕ) (rs : List ℕ) (t p a : ℕ) → (p < length rs → a ≡ semi_start S m rs p) → option_map (server S m rs p) (in_time t (position S a (share rs p) t)) ≡ in_time t (semi_serves S m rs t p)
+semi_placed S m rs t p a e = ⊎_elim here (λ l. past S a t p rs (server S m rs p) l ∙ sym (ap (in_time t) (semi_none S m rs t p l))) (cases_lt p (length rs))
+  where
+    go : (b : Bool) → in_time t (cond (ltb (offset S (cond b (free S rs (suc p)) (shared m rs p)) t) (share rs p)) (Some (cond b p (highest (free S rs) (cond b (free S rs (suc p)) (shared m rs p) + offset S (cond b (free S rs (suc p)) (shared m rs p)) t) m))) None) ≡ in_time t (cond b (own_serves S rs t p) (shared_serves S m rs t p))
+    go true = refl
+    go false = refl
 
-  pub flat_no : share rs p ≤ k → None ≡ in_time t (flat_serves S rs t p)
-  flat_no l = nobody t (flat_serves S rs t p) (cond-false (ltb (offset S (start rs p) t) (share rs p)) (Some ((start rs p + offset S (start rs p) t) / S)) None (le-ltb (offset S (start rs p) t) (share rs p) (omega (arith, place))))
+    here : p < length rs → option_map (server S m rs p) (in_time t (position S a (share rs p) t)) ≡ in_time t (semi_serves S m rs t p)
+    here l =
+        ap (λ b. option_map (server S m rs p) (in_time t (position S b (share rs p) t))) (e l)
+        ∙ placed_in_time S (semi_start S m rs p) (share rs p) t (server S m rs p)
+        ∙ go (ltb p m)
 
--- the same for a bin that has processor p to itself; a is what the processors up to p have left
-module _ (S m : ℕ) (rs : List ℕ) (t p a k : ℕ) (own : p < m) (from : a ≡ free S rs (suc p)) (is : k ≡ offset S a t) where
-  own_place : offset S (free S rs (suc p)) t ≡ k
-  own_place = ap (λ x. offset S x t) (sym from) ∙ sym is
+pub server_own : (S m : ℕ) (rs : List ℕ) (p x : ℕ) → p < m → server S m rs p x ≡ p
+server_own S m rs p x l = cond-true (ltb p m) p (highest (free S rs) x m) (lt-ltb p m l)
 
-  own_is : semi_serves S m rs t p ≡ own_serves S rs t p
-  own_is = cond-true (ltb p m) (own_serves S rs t p) (shared_serves S m rs t p) (lt-ltb p m own)
+pub server_shared : (S m : ℕ) (rs : List ℕ) (p x : ℕ) → m ≤ p → server S m rs p x ≡ highest (free S rs) x m
+server_shared S m rs p x l = cond-false (ltb p m) p (highest (free S rs) x m) (le-ltb p m l)
 
-  pub own_yes : t < horizon → k < share rs p → Some p ≡ in_time t (semi_serves S m rs t p)
-  own_yes far l =
-      sym (cond-true (ltb (offset S (free S rs (suc p)) t) (share rs p)) (Some p) None (lt-ltb (offset S (free S rs (suc p)) t) (share rs p) (omega (arith, own_place))))
-      ∙ sym own_is
-      ∙ sym (in_range t (semi_serves S m rs t p) far)
+-- the highest of the first n at which f is at most x
+pub highest_is : (f : ℕ → ℕ) (x n q : ℕ) → q < n → f q ≤ x → ((k : ℕ) → q < k → k < n → x < f k) → highest f x n ≡ q
+unfolding highest
+highest_is f x zero q l here above = absurd (omega arith)
+highest_is f x (suc n) q l here above =
+    ⊎_elim (λ e. cond-true (leb (f n) x) n (highest f x n) (le-leb (f n) x (omega (arith, ap f e))) ∙ sym e)
+    (λ o. ⊎_elim (λ less. cond-false (leb (f n) x) n (highest f x n) (lt-leb (f n) x (above n less (omega arith))) ∙ highest_is f x n q less here (λ k m h. above k m (omega arith))) (λ more. absurd (omega arith)) o)
+    (cases_order q n)
 
-  pub own_no : share rs p ≤ k → None ≡ in_time t (semi_serves S m rs t p)
-  own_no l =
-      nobody t (semi_serves S m rs t p)
-      (own_is ∙ cond-false (ltb (offset S (free S rs (suc p)) t) (share rs p)) (Some p) None (le-ltb (offset S (free S rs (suc p)) t) (share rs p) (omega (arith, own_place))))
+pub highest_none : (f : ℕ → ℕ) (x n : ℕ) → ((k : ℕ) → k < n → x < f k) → highest f x n ≡ 0
+unfolding highest
+highest_none f x zero above = refl
+highest_none f x (suc n) above =
+    cond-false (leb (f n) x) n (highest f x n) (lt-leb (f n) x (above n (omega arith))) ∙ highest_none f x n (λ k h. above k (omega arith))
 
--- and for one that shares
-module _ (S m : ℕ) (rs : List ℕ) (t p a k : ℕ) (high : m ≤ p) (from : a ≡ shared m rs p) (is : k ≡ offset S a t) where
-  pub lent_yes : (q : ℕ) → t < horizon → k < share rs p → q ≡ find (free S rs) (a + k) m → Some q ≡ in_time t (semi_serves S m rs t p)
-  lent_yes q far l found = lent_serves S m rs t p a k q high from is l found ∙ sym (in_range t (semi_serves S m rs t p) far)
+pub highest_same : (f g : ℕ → ℕ) (x n : ℕ) → ((k : ℕ) → k < n → f k ≡ g k) → highest f x n ≡ highest g x n
+unfolding highest
+highest_same f g x zero e = refl
+highest_same f g x (suc n) e =
+    ap (λ y. cond (leb y x) n (highest f x n)) (e n (omega arith)) ∙ ap (λ y. cond (leb (g n) x) n y) (highest_same f g x n (λ k h. e k (omega arith)))
 
-  pub lent_no : share rs p ≤ k → None ≡ in_time t (semi_serves S m rs t p)
-  lent_no l =
-      let e : offset S (shared m rs p) t ≡ k = ap (λ x. offset S x t) (sym from) ∙ sym is in
-      nobody t (semi_serves S m rs t p)
-      (cond-false (ltb p m) (own_serves S rs t p) (shared_serves S m rs t p) (le-ltb p m high)
-      ∙ cond-false (ltb (offset S (shared m rs p) t) (share rs p)) (Some (find (free S rs) (shared m rs p + offset S (shared m rs p) t) m)) None (le-ltb (offset S (shared m rs p) t) (share rs p) (omega (arith, e))))
+some_cond : (b : Bool) (x : ℕ) → then_some b x ≡ cond b (Some x) None
+some_cond true x = refl
+some_cond false x = refl
+
+-- a place that is answered: the bin is there, and its reserve lasts
+pub answered_at : (S a t p x : ℕ) (rs : List ℕ) → in_time t (position S a (share rs p) t) ≡ Some x → Answered (offset S a t) (share rs p) (a + offset S a t) x × (p < length rs)
+answered_at S a t p x rs e =
+    let k = offset S a t in
+    let r = answered k (share rs p) (a + k) x (sym (some_cond (ltb k (share rs p)) (a + k)) ∙ timed t (position S a (share rs p) t) x e) in
+    (r, ⊎_elim (λ l. l) (λ l. absurd (omega (arith, r.early, get_or_past rs p 0 l))) (cases_lt p (length rs)))
+
+-- from the place where f passes x on
+pub highest_before : (f : ℕ → ℕ) (x n i : ℕ) → i ≤ n → ((k : ℕ) → k < i → f k ≤ x) → ((k : ℕ) → i ≤ k → k < n → x < f k) → highest f x n ≡ i - 1
+highest_before f x n i l below above =
+    ⊎_elim (λ some. highest_is f x n (i - 1) (omega arith) (below (i - 1) (omega arith)) (λ k m h. above k (omega arith) h)) (λ none. highest_none f x n (λ k h. above k (omega arith) h) ∙ omega arith) (cases_lt 0 i)

@@ -1,5 +1,6 @@
 pub mod Refusals
 pub mod Makes
+pub mod Parts
 pub mod Shared
 pub mod Views
 pub mod Examples

@@ -1,8 +1,8 @@
 -- Which layouts a plan has, and what they mean.
-use Rattle.std.specs.Prelude.{◌≡◌, ℕ, ◌*◌, ◌≤◌, length, sum, slice_index}
-use Rattle.plan.specs.declared.verdict.Verdict.TheVariants.{Good}
-use Rattle.plan.specs.Closing.{Planned}
-use Rattle.layout_laws.specs.Meaning.{Meaning}
+use Rattle.std.specs.Prelude.{◌≡◌, ℕ, ◌*◌, ◌≤◌, ⊤, length, sum, Result, MatchResult, slice_index}
+use Rattle.plan.specs.Closing.{Planned, Good}
+use Rattle.layout.specs.declared.refusal.NotMade.{NotMade}
+use Rattle.layout_laws.specs.Meaning.{Meaning, empty}
 use Rattle.layout_laws.specs.Flat.{flat}
 use Rattle.layout_laws.specs.Semi.{semi}
 use Rattle.layout_laws.specs.Dedicated.{dedicated}
@@ -33,3 +33,7 @@ pub record Fits (p : Planned) (m : Meaning) : Type 0 where
   pub bins : length p.loads ≡ m.bins
   pub shortest : p.shortest ≡ m.shortest
   pub loads : (q : ℕ) → slice_index p.loads q ≡ m.load q
+
+-- what filling a place with a plan's layout leaves: `made` where the plan has it, and else the empty layout
+abbrev pub Filled : Result ⊤ NotMade → Planned → Type 0 → Meaning → Meaning → Type 0
+Filled result p Has made new = MatchResult result (λ u. Has × (new ≡ made) × Fits p new) (λ e. (¬ Has) × (new ≡ empty))

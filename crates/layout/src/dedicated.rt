@@ -1,7 +1,9 @@
 // The dedicated layout: each bin has a processor to itself.
-ghost use Rattle.std.specs.Prelude.{◌≡◌, ℕ, ◌≤◌, length, take, slice_index};
+ghost use Rattle.std.specs.Prelude.{ℕ, ◌≤◌, slice_index};
+ghost use Rattle.arrayvec.specs.ArrayVec.{array_vec_len};
 ghost use Rattle.plan.specs.Method.{full};
 
+use arrayvec::ArrayVec;
 use plan::table::ROWS;
 
 mod making;
@@ -10,11 +12,10 @@ mod serving;
 #[derive(Drop)]
 pub struct Dedicated {
     processors: u8,
-    bins: u8,
     shortest: u32,
-    loads: [u32; ROWS],
+    // The load of each bin.
+    loads: ArrayVec<u32, ROWS>,
     ghost most: { (1 ≤ processors) × (processors ≤ 16) },
-    ghost room: { bins ≤ processors },
-    ghost wide: { length loads ≡ 64 },
-    ghost light: { (p : ℕ) → slice_index (take bins loads) p ≤ full },
+    ghost room: { array_vec_len loads ≤ processors },
+    ghost light: { (p : ℕ) → slice_index loads.items p ≤ full },
 }

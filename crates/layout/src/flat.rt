@@ -1,9 +1,10 @@
 // The flat layout: reserves one after another, wrapped at the end of each processor.
-ghost use Rattle.std.specs.Prelude.{◌≡◌, ℕ, ◌<◌, length, take, slice_index};
+ghost use Rattle.std.specs.Prelude.{◌≡◌, ℕ, ◌<◌, map, slice_index};
+ghost use Rattle.arrayvec.specs.ArrayVec.{array_vec_len};
 ghost use Rattle.layout_laws.specs.Flat.{start};
+ghost use Rattle.layout.specs.Parts.{reserve_of, start_of};
 
 use crate::shares::Shares;
-use plan::table::ROWS;
 
 mod making;
 mod serving;
@@ -11,8 +12,5 @@ mod serving;
 #[derive(Drop)]
 pub struct Flat {
     shares: Shares,
-    // Where each bin starts.
-    starts: [u32; ROWS],
-    ghost wide: { length starts ≡ 64 },
-    ghost started: { (p : ℕ) → p < shares.bins → slice_index starts p ≡ start (take shares.bins shares.reserves) p },
+    ghost started: { (p : ℕ) → p < array_vec_len shares.bins → slice_index (map start_of shares.bins.items) p ≡ start (map reserve_of shares.bins.items) p },
 }

@@ -8,6 +8,7 @@ pub mod flat;
 pub mod layout;
 pub mod refusal;
 pub mod semi;
+mod share;
 mod shares;
 
 pub use dedicated::Dedicated;

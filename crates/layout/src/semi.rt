@@ -1,9 +1,10 @@
 // The semi-partitioned layout: the first bins have the end of a processor's slot each, and the others share what is left.
-ghost use Rattle.std.specs.Prelude.{◌≡◌, ℕ, ◌<◌, ◌≤◌, length, take, slice_index};
-ghost use Rattle.layout_laws.specs.Semi.{free, shared};
+ghost use Rattle.std.specs.Prelude.{◌≡◌, ℕ, ◌<◌, ◌≤◌, length, map, slice_index};
+ghost use Rattle.arrayvec.specs.ArrayVec.{array_vec_len};
+ghost use Rattle.layout_laws.specs.Semi.{free, semi_start};
+ghost use Rattle.layout.specs.Parts.{reserve_of, start_of};
 
 use crate::shares::Shares;
-use plan::table::ROWS;
 
 mod making;
 mod serving;
@@ -13,9 +14,7 @@ pub struct Semi {
     shares: Shares,
     // What the processors below each have left.
     frees: [u32; 17],
-    // Where each bin without a processor of its own starts in what is left.
-    starts: [u32; ROWS],
-    ghost wide: { (length frees ≡ 17) × (length starts ≡ 64) },
-    ghost freed: { (q : ℕ) → q ≤ 16 → slice_index frees q ≡ free shares.slot (take shares.bins shares.reserves) q },
-    ghost started: { (p : ℕ) → shares.processors ≤ p → p < shares.bins → slice_index starts p ≡ shared shares.processors (take shares.bins shares.reserves) p },
+    ghost wide: { length frees ≡ 17 },
+    ghost freed: { (q : ℕ) → q ≤ 16 → slice_index frees q ≡ free shares.slot (map reserve_of shares.bins.items) q },
+    ghost started: { (p : ℕ) → p < array_vec_len shares.bins → slice_index (map start_of shares.bins.items) p ≡ semi_start shares.slot shares.processors (map reserve_of shares.bins.items) p },
 }

@@ -6,7 +6,7 @@ use Rattle.layout_laws.specs.Offset.{offset}
 use Rattle.plan.specs.Method.{full}
 use Rattle.layout_laws.specs.Meaning.{in_time, supplied, Formed, Exclusive, Supplies}
 use Rattle.layout_laws.specs.Shares.{share, before, Fit, Carry}
-use Rattle.layout_laws.specs.Semi.{room, free, shared, find, own_serves, shared_serves, semi_serves, semi, Holds}
+use Rattle.layout_laws.specs.Semi.{room, free, shared, highest, own_serves, shared_serves, semi_serves, semi, Holds}
 use Rattle.layout_laws.proofs.Offset.{offset_is, same_near}
 use Rattle.layout_laws.proofs.Sums.{before_none, before_more, before_mono, before_add, before_total}
 use Rattle.layout_laws.proofs.Supply.{timed, timed_formed, supply_of, supply_none}
@@ -18,12 +18,12 @@ record Found (f : ℕ → ℕ) (x n q : ℕ) : Type 0 where
   from : f q ≤ x
   to : x < f (suc q)
 
-found : (f : ℕ → ℕ) (x n : ℕ) → f 0 ≤ x → x < f n → Found f x n (find f x n)
-unfolding find
+found : (f : ℕ → ℕ) (x n : ℕ) → f 0 ≤ x → x < f n → Found f x n (highest f x n)
+unfolding highest
 found f x zero low high = absurd (omega arith)
 found f x (suc n) low high = go (leb (f n) x) refl (found f x n low)
   where
-    go : (b : Bool) → leb (f n) x ≡ b → (x < f n → Found f x n (find f x n)) → Found f x (suc n) (cond b n (find f x n))
+    go : (b : Bool) → leb (f n) x ≡ b → (x < f n → Found f x n (highest f x n)) → Found f x (suc n) (cond b n (highest f x n))
     go true h ih = record { known = omega arith; from = leb-true (f n) x h; to = high }
     go false h ih =
         let r = ih (leb-false (f n) x h) in
@@ -46,7 +46,7 @@ module _ (S m : ℕ) (rs : List ℕ) (fit : Fit S m rs) where
       let e : m + suc (p - m) ≡ suc p = omega arith in
       omega (arith, shared_more p h, before_add (share rs) m (suc (p - m)), ap (before (share rs)) e, before_total S m rs (suc p) fit, free_total m)
 
-  held : (p k : ℕ) → m ≤ p → k < share rs p → Holds S rs m (shared m rs p + k) (find (free S rs) (shared m rs p + k) m)
+  held : (p k : ℕ) → m ≤ p → k < share rs p → Holds S rs m (shared m rs p + k) (highest (free S rs) (shared m rs p + k) m)
   held p k h l =
       let f = found (free S rs) (shared m rs p + k) m (omega (arith, before_none (room S rs))) (omega (arith, shared_fits p h)) in
       record { known = f.known; from = f.from; to = f.to }
@@ -71,7 +71,7 @@ module _ (S m : ℕ) (rs : List ℕ) (fit : Fit S m rs) where
           inl (record { mine = sym a.by; known = ltb-true p m h; early = a.early })
       go false h e =
           let x : ℕ = shared m rs p + offset S (shared m rs p) t in
-          let a = answered (offset S (shared m rs p) t) (share rs p) (find (free S rs) x m) q e in
+          let a = answered (offset S (shared m rs p) t) (share rs p) (highest (free S rs) x m) q e in
           let l : m ≤ p = ltb-false p m h in
           inr (record { high = l; early = a.early; holds = subst (λ y. Holds S rs m x y) a.by (held p (offset S (shared m rs p) t) l a.early) })
 
@@ -136,7 +136,7 @@ semi_supply S m δ T rs ws fit carry p t l long far = ⊎_elim some none (cases_
 
         lent : m ≤ p → (semi S m T rs ws).load p * l ≤ supplied (semi S m T rs ws) p t l * full
         lent h =
-            supply_of (semi S m T rs ws) S δ T rs ws p (shared m rs p) (λ u. find (free S rs) (shared m rs p + offset S (shared m rs p) u) m) fit (carry k) refl (λ u. ap (in_time u) (cond-false (ltb p m) (own_serves S rs u p) (shared_serves S m rs u p) (le-ltb p m h))) t l long far
+            supply_of (semi S m T rs ws) S δ T rs ws p (shared m rs p) (λ u. highest (free S rs) (shared m rs p + offset S (shared m rs p) u) m) fit (carry k) refl (λ u. ap (in_time u) (cond-false (ltb p m) (own_serves S rs u p) (shared_serves S m rs u p) (le-ltb p m h))) t l long far
 
     none : length ws ≤ 0 → (semi S m T rs ws).load p * l ≤ supplied (semi S m T rs ws) p t l * full
     none h = supply_none (semi S m T rs ws) p t l (get_or_past ws p 0 (omega arith))
@@ -155,13 +155,13 @@ none_serves S m rs t p h = go (ltb p m)
     go true = cond-false (ltb (offset S (free S rs (suc p)) t) (share rs p)) (Some p) None (late (offset S (free S rs (suc p)) t))
     go false = cond-false (ltb (offset S (shared m rs p) t) (share rs p)) _ None (late (offset S (shared m rs p) t))
 
-pub lent_serves : (S m : ℕ) (rs : List ℕ) (t p a k q : ℕ) → m ≤ p → a ≡ shared m rs p → k ≡ offset S a t → k < share rs p → q ≡ find (free S rs) (a + k) m → Some q ≡ semi_serves S m rs t p
+pub lent_serves : (S m : ℕ) (rs : List ℕ) (t p a k q : ℕ) → m ≤ p → a ≡ shared m rs p → k ≡ offset S a t → k < share rs p → q ≡ highest (free S rs) (a + k) m → Some q ≡ semi_serves S m rs t p
 lent_serves S m rs t p a k q high e o l f =
     let o' : k ≡ offset S (shared m rs p) t = o ∙ ap (λ x. offset S x t) e in
     let x : a + k ≡ shared m rs p + offset S (shared m rs p) t = omega arith in
-    let y : q ≡ find (free S rs) (shared m rs p + offset S (shared m rs p) t) m = f ∙ ap (λ z. find (free S rs) z m) x in
+    let y : q ≡ highest (free S rs) (shared m rs p + offset S (shared m rs p) t) m = f ∙ ap (λ z. highest (free S rs) z m) x in
     sym (cond-false (ltb p m) (own_serves S rs t p) (shared_serves S m rs t p) (le-ltb p m high)
-    ∙ cond-true (ltb (offset S (shared m rs p) t) (share rs p)) (Some (find (free S rs) (shared m rs p + offset S (shared m rs p) t) m)) None (lt-ltb (offset S (shared m rs p) t) (share rs p) (omega arith))
+    ∙ cond-true (ltb (offset S (shared m rs p) t) (share rs p)) (Some (highest (free S rs) (shared m rs p + offset S (shared m rs p) t) m)) None (lt-ltb (offset S (shared m rs p) t) (share rs p) (omega arith))
     ∙ ap Some (sym y))
 
 pub semi_formed : (S m T : ℕ) (rs ws : List ℕ) → 1 ≤ m → m ≤ 16 → length rs ≡ length ws → length ws ≤ 64 → Formed (semi S m T rs ws)

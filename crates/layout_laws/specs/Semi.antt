@@ -17,16 +17,20 @@ free S rs q = before (room S rs) q
 abbrev pub shared : ℕ → List ℕ → ℕ → ℕ
 shared m rs p = before (λ i. share rs (m + i)) (p - m)
 
+-- where bin p starts: in its own processor's slot, after what the processors up to that one have left, or in what is left
+abbrev pub semi_start : ℕ → ℕ → List ℕ → ℕ → ℕ
+semi_start S m rs p = cond (nat_lt p m) (free S rs (suc p)) (shared m rs p)
+
 -- the greatest q below n with f q ≤ x, or 0
-unfoldable pub find : (ℕ → ℕ) → ℕ → ℕ → ℕ
-find f x zero = 0
-find f x (suc n) = cond (nat_le (f n) x) n (find f x n)
+unfoldable pub highest : (ℕ → ℕ) → ℕ → ℕ → ℕ
+highest f x zero = 0
+highest f x (suc n) = cond (nat_le (f n) x) n (highest f x n)
 
 abbrev pub own_serves : ℕ → List ℕ → ℕ → ℕ → Option ℕ
 own_serves S rs t p = cond (nat_lt (offset S (free S rs (suc p)) t) (share rs p)) (Some p) None
 
 abbrev pub shared_serves : ℕ → ℕ → List ℕ → ℕ → ℕ → Option ℕ
-shared_serves S m rs t p = cond (nat_lt (offset S (shared m rs p) t) (share rs p)) (Some (find (free S rs) (shared m rs p + offset S (shared m rs p) t) m)) None
+shared_serves S m rs t p = cond (nat_lt (offset S (shared m rs p) t) (share rs p)) (Some (highest (free S rs) (shared m rs p + offset S (shared m rs p) t) m)) None
 
 abbrev pub semi_serves : ℕ → ℕ → List ℕ → ℕ → ℕ → Option ℕ
 semi_serves S m rs t p = cond (nat_lt p m) (own_serves S rs t p) (shared_serves S m rs t p)

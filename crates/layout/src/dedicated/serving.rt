@@ -1,7 +1,5 @@
 ghost use Rattle.layout.specs.Views.{dedicated_view};
 ghost use Rattle.std.proofs.Common.{arith};
-ghost use Rattle.std.specs.Prelude.{take};
-ghost use Rattle.std.proofs.lemmas.List.{length-take-le};
 ghost use Rattle.layout_laws.proofs.DedicatedLaws.{dedicated_formed, dedicated_exclusive, dedicated_supply};
 
 use super::Dedicated;
@@ -11,22 +9,18 @@ use crate::layout::Layout;
 impl Layout for Dedicated {
     ghost meaning = { λ x. dedicated_view x };
 
-    ghost formed = { λ x.
-        let n = length-take-le x.bins x.loads (omega (arith, x.most.1, x.room, x.wide)) in
-        dedicated_formed x.processors x.shortest (take x.bins x.loads) x.most.0 x.most.1 (omega (arith, n, x.most.1, x.room)) };
+    ghost formed = { λ x. dedicated_formed x.processors x.shortest x.loads.items x.most.0 x.most.1 (omega (arith, x.most.1, x.room)) };
 
-    ghost exclusive = { λ x.
-        let n = length-take-le x.bins x.loads (omega (arith, x.most.1, x.room, x.wide)) in
-        dedicated_exclusive x.processors x.shortest (take x.bins x.loads) (omega (arith, n, x.room)) };
+    ghost exclusive = { λ x. dedicated_exclusive x.processors x.shortest x.loads.items x.room };
 
-    ghost supply = { λ x. dedicated_supply x.processors x.shortest (take x.bins x.loads) x.light };
+    ghost supply = { λ x. dedicated_supply x.processors x.shortest x.loads.items x.light };
 
     fn processors(&self) -> u8 {
         self.processors
     }
 
     fn bins(&self) -> u8 {
-        self.bins
+        self.loads.len() as u8
     }
 
     fn shortest(&self) -> u32 {
@@ -34,17 +28,10 @@ impl Layout for Dedicated {
     }
 
     fn load(&self, bin: u8) -> u32 {
-        if bin < self.bins {
-            self.loads[bin as usize]
-        } else {
-            0
-        }
+        self.loads.get(bin as usize).copied().unwrap_or(0)
     }
 
     fn serve(&self, tick: u32, bin: u8) -> Option<u8> {
-        if tick >= TICKS {
-            return None;
-        }
-        if bin < self.bins { Some(bin) } else { None }
+        (tick < TICKS && bin < self.bins()).then_some(bin)
     }
 }

@@ -1,15 +1,14 @@
 // Making a flat layout.
-ghost use Rattle.std.specs.Prelude.{◌≡◌, Ok, Err};
+ghost use Rattle.std.specs.Prelude.{◌≡◌, MatchResult};
 ghost use Rattle.plan.specs.Plans.{planned};
 ghost use Rattle.layout_laws.specs.Meaning.{empty};
-ghost use Rattle.layout.specs.Makes.{Roomy, flat_of, Fits};
+ghost use Rattle.layout.specs.Makes.{Roomy, flat_of, Filled};
 ghost use Rattle.layout.specs.Views.{flat_view};
 
 use super::Flat;
 use crate::refusal::NotMade;
 use crate::shares::Shares;
 use plan::Plan;
-use plan::table::ROWS;
 
 impl Flat {
     // The layout of nobody: one processor and no bins.
@@ -18,24 +17,23 @@ impl Flat {
     {
         Flat {
             shares: Shares::none(),
-            starts: [0; ROWS],
         }
     }
 
-    // Makes this place the flat layout of a plan, or where the plan has none, the empty layout.
-    pub fn fill(&mut self, plan: &Plan) -> Result<(), NotMade>
-        ensures { elim result [ Ok u ↦ Roomy (planned plan.now) × (flat_view self.new ≡ flat_of (planned plan.now)) × Fits (planned plan.now) (flat_view self.new) | Err e ↦ (Roomy (planned plan.now) → ⊥) × (flat_view self.new ≡ empty) ] }
+    fn of(plan: &Plan) -> Result<Flat, NotMade>
+        ensures { MatchResult result (λ x. Roomy (planned plan.now) × (flat_view x ≡ flat_of (planned plan.now))) (λ e. ¬ Roomy (planned plan.now)) }
     {
-        match Shares::of(plan) {
-            Some(shares) => {
-                let starts = shares.starts(0);
-                *self = Flat { shares, starts };
-                Ok(())
-            }
-            None => {
-                *self = Flat::empty();
-                Err(NotMade)
-            }
-        }
+        let shares = Shares::of(plan, 0)?;
+        Ok(Flat { shares })
+    }
+
+    // Makes this place the flat layout of a plan, or where the plan has none, the empty layout.
+    // No plainer as one function for the three layouts: each would hand it its empty layout and the one that it made.
+    pub fn fill(&mut self, plan: &Plan) -> Result<(), NotMade>
+        ensures { Filled result (planned plan.now) (Roomy (planned plan.now)) (flat_of (planned plan.now)) (flat_view self.new) }
+    {
+        *self = Flat::empty();
+        *self = Flat::of(plan)?;
+        Ok(())
     }
 }

@@ -1,12 +1,10 @@
 ghost use Rattle.layout.specs.Views.{flat_view};
 ghost use Rattle.std.proofs.Common.{sym, ◌∙◌, arith};
 ghost use Rattle.layout_laws.proofs.FlatLaws.{flat_formed, flat_exclusive, flat_supply};
-ghost use Rattle.layout.specs.Lawful.{weights, reserved, count_weights, count_reserved, fit, carry};
+ghost use Rattle.layout.specs.Lawful.{weights, reserved, count_weights, count_reserved, carry};
 
 use super::Flat;
-use crate::TICKS;
 use crate::layout::Layout;
-use crate::shares::offset;
 
 impl Layout for Flat {
     ghost meaning = { λ x. flat_view x };
@@ -15,16 +13,17 @@ impl Layout for Flat {
         let s = x.shares in
         flat_formed s.slot s.processors s.shortest (reserved s) (weights s) s.most.0 s.most.1 (count_reserved s ∙ sym (count_weights s)) (omega (arith, count_weights s, s.few)) };
 
-    ghost exclusive = { λ x. let s = x.shares in flat_exclusive s.slot s.processors s.shortest (reserved s) (weights s) (fit s) };
+    ghost exclusive = { λ x. let s = x.shares in flat_exclusive s.slot s.processors s.shortest (reserved s) (weights s) s.fit };
 
-    ghost supply = { λ x. let s = x.shares in flat_supply s.slot s.processors s.delta s.shortest (reserved s) (weights s) (fit s) (carry s) };
+    ghost supply = { λ x. let s = x.shares in flat_supply s.slot s.processors s.delta s.shortest (reserved s) (weights s) s.fit (carry s) };
 
+    // No plainer: these four are also those of `Semi`, and a type for both would take a parameter with the laws of how it serves.
     fn processors(&self) -> u8 {
         self.shares.processors
     }
 
     fn bins(&self) -> u8 {
-        self.shares.bins
+        self.shares.count()
     }
 
     fn shortest(&self) -> u32 {
@@ -36,18 +35,7 @@ impl Layout for Flat {
     }
 
     fn serve(&self, tick: u32, bin: u8) -> Option<u8> {
-        if tick >= TICKS {
-            return None;
-        }
-        if bin >= self.shares.bins {
-            return None;
-        }
-        let start = self.starts[bin as usize];
-        let k = offset(self.shares.slot, start, tick);
-        if k < self.shares.reserves[bin as usize] {
-            Some(((start + k) / self.shares.slot) as u8)
-        } else {
-            None
-        }
+        let position = self.shares.position(tick, bin)?;
+        Some((position / self.shares.slot) as u8)
     }
 }

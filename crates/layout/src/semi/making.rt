@@ -1,8 +1,8 @@
 // Making a semi-partitioned layout.
-ghost use Rattle.std.specs.Prelude.{◌≡◌, Ok, Err};
+ghost use Rattle.std.specs.Prelude.{◌≡◌, MatchResult};
 ghost use Rattle.plan.specs.Plans.{planned};
 ghost use Rattle.layout_laws.specs.Meaning.{empty};
-ghost use Rattle.layout.specs.Makes.{Roomy, semi_of, Fits};
+ghost use Rattle.layout.specs.Makes.{Roomy, semi_of, Filled};
 ghost use Rattle.layout.specs.Views.{semi_view};
 
 use super::Semi;
@@ -10,39 +10,34 @@ use crate::refusal::NotMade;
 use crate::shares::Shares;
 use plan::Plan;
 
-fn laid(shares: Shares) -> Semi
-    ensures { result.shares ≡ shares }
-{
-    let frees = shares.frees();
-    let starts = shares.starts(shares.processors);
-    Semi {
-        shares,
-        frees,
-        starts,
-    }
-}
-
 impl Semi {
     // The layout of nobody: one processor and no bins.
     pub fn empty() -> Semi
         ensures { semi_view result ≡ empty }
     {
-        laid(Shares::none())
+        let shares = Shares::none();
+        Semi {
+            frees: shares.frees(),
+            shares,
+        }
+    }
+
+    fn of(plan: &Plan) -> Result<Semi, NotMade>
+        ensures { MatchResult result (λ x. Roomy (planned plan.now) × (semi_view x ≡ semi_of (planned plan.now))) (λ e. ¬ Roomy (planned plan.now)) }
+    {
+        let shares = Shares::of(plan, plan.processors())?;
+        Ok(Semi {
+            frees: shares.frees(),
+            shares,
+        })
     }
 
     // Makes this place the semi-partitioned layout of a plan, or where the plan has none, the empty layout.
     pub fn fill(&mut self, plan: &Plan) -> Result<(), NotMade>
-        ensures { elim result [ Ok u ↦ Roomy (planned plan.now) × (semi_view self.new ≡ semi_of (planned plan.now)) × Fits (planned plan.now) (semi_view self.new) | Err e ↦ (Roomy (planned plan.now) → ⊥) × (semi_view self.new ≡ empty) ] }
+        ensures { Filled result (planned plan.now) (Roomy (planned plan.now)) (semi_of (planned plan.now)) (semi_view self.new) }
     {
-        match Shares::of(plan) {
-            Some(shares) => {
-                *self = laid(shares);
-                Ok(())
-            }
-            None => {
-                *self = Semi::empty();
-                Err(NotMade)
-            }
-        }
+        *self = Semi::empty();
+        *self = Semi::of(plan)?;
+        Ok(())
     }
 }

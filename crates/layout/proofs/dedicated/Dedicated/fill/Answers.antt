@@ -3,8 +3,7 @@ use Rattle.plan.specs.Plans.{planned}
 use Rattle.layout.specs.Makes.{Fits}
 use Rattle.layout.proofs.dedicated.Dedicated.fill.Goals as goal
 
-pub returns-then-has_processors : goal.returns-then-has_processors
-returns-then-has_processors c =
-    let spacious = c.if-has_processors.ensures in
-    let made = c.laid.ensures in
-    (spacious, made, subst (Fits (planned c.args.plan.now)) (sym made) (record { good = spacious.good; processors = refl; bins = refl; shortest = refl; loads = λ q. refl }))
+pub returns : goal.returns
+returns c =
+    let made = c.in_ok-self.ensures in
+    (made.0, made.1, subst (Fits (planned c.args.plan.now)) (sym made.1) (record { good = made.0.good; processors = refl; bins = refl; shortest = refl; loads = λ q. refl }))

@@ -1,51 +1,34 @@
-use Rattle.std.proofs.Common.{◌*◌, ◌≤◌, get_or, sym, arith}
-use Rattle.std.proofs.lemmas.Nat.{mul-le}
-use Rattle.layout_laws.specs.Flat.{flat_serves}
-use Rattle.layout_laws.proofs.FlatLaws.{slot_below, processor_below, none_serves}
-use Rattle.layout_laws.proofs.Supply.{past_range}
-use Rattle.layout.specs.Lawful.{reserved, count_reserved, fit, share_is}
-use Rattle.layout.proofs.Serving.{nobody, flat_yes, flat_no}
+use Rattle.std.proofs.Common.{◌/◌, get_or, map, sym, ap, ◌∙◌, arith}
+use Rattle.std.specs.Option.{option_map}
+use Rattle.layout_laws.proofs.FlatLaws.{processor_below}
+use Rattle.layout_laws.specs.Offset.{offset}
+use Rattle.layout.specs.Parts.{start_of}
+use Rattle.layout.specs.Lawful.{reserved, count_reserved}
+use Rattle.layout.proofs.Serving.{answered_at, flat_placed}
 use Rattle.layout.proofs.flat.serving.FlatLayout.serve.Goals as goal
-
-pub returns-then-tick-ge-TICKS : goal.returns-then-tick-ge-TICKS
-returns-then-tick-ge-TICKS c =
-    let s = c.args.self.now.shares in
-    sym (past_range c.args.tick (flat_serves s.slot (reserved s) c.args.tick c.args.bin) (omega arith))
-
-pub returns-then-bin-self : goal.returns-then-bin-self
-returns-then-bin-self c =
-    let s = c.args.self.now.shares in
-    let t = c.args.tick in
-    let p = c.args.bin in
-    nobody t (flat_serves s.slot (reserved s) t p) (none_serves s.slot (reserved s) t p (omega (arith, count_reserved s)))
-
-pub overflow_add-result : goal.overflow_add-result
-overflow_add-result c =
-    let x = c.args.self.now in
-    let s = x.shares in
-    let p = c.args.bin in
-    let room : s.processors * s.slot ≤ 16 * 1000000 = mul-le s.processors s.slot 16 1000000 s.most.1 s.some.1 in
-    let l = slot_below s.slot s.processors (reserved s) p (get_or x.starts p 0) c.offset-k.result (fit s) (x.started p (omega arith)) (omega (arith, share_is s p (omega arith))) in
-    record { fits = omega arith }
 
 pub overflow_cast-result : goal.overflow_cast-result
 overflow_cast-result c =
     let x = c.args.self.now in
     let s = x.shares in
     let p = c.args.bin in
-    let l = processor_below s.slot s.processors (reserved s) p (get_or x.starts p 0) c.offset-k.result (fit s) (x.started p (omega arith)) (omega (arith, share_is s p (omega arith))) in
-    record { fits = omega (arith, s.most.1) }
+    let a = get_or (map start_of s.bins.items) p 0 in
+    let here = answered_at s.slot a c.args.tick p c.in_ok-position.position (reserved s) (sym c.position.ensures ∙ c.in_ok-position.was) in
+    let l = processor_below s.slot s.processors (reserved s) p a (offset s.slot a c.args.tick) s.fit (x.started p (omega (arith, here.1, count_reserved s))) here.0.early in
+    record { fits = omega (arith, s.most.1, l, ap (λ y. y / s.slot) here.0.by) }
 
-pub returns-then-k-self : goal.returns-then-k-self
-returns-then-k-self c =
+pub returns-in_err-position : goal.returns-in_err-position
+returns-in_err-position c =
     let x = c.args.self.now in
     let s = x.shares in
     let p = c.args.bin in
-    flat_yes s.slot (reserved s) c.args.tick p (get_or x.starts p 0) c.offset-k.result (x.started p (omega arith)) c.offset-k.ensures (omega arith) (omega (arith, share_is s p (omega arith)))
+    c.from_residual.ensures ∙ ap (option_map (λ y. y / s.slot)) (sym c.in_err-position.was ∙ c.position.ensures)
+    ∙ flat_placed s.slot (reserved s) c.args.tick p (get_or (map start_of s.bins.items) p 0) (λ l. x.started p (omega (arith, l, count_reserved s)))
 
-pub returns-else-k-self : goal.returns-else-k-self
-returns-else-k-self c =
+pub returns : goal.returns
+returns c =
     let x = c.args.self.now in
     let s = x.shares in
     let p = c.args.bin in
-    flat_no s.slot (reserved s) c.args.tick p (get_or x.starts p 0) c.offset-k.result (x.started p (omega arith)) c.offset-k.ensures (omega (arith, share_is s p (omega arith)))
+    ap (option_map (λ y. y / s.slot)) (sym c.in_ok-position.was ∙ c.position.ensures)
+    ∙ flat_placed s.slot (reserved s) c.args.tick p (get_or (map start_of s.bins.items) p 0) (λ l. x.started p (omega (arith, l, count_reserved s)))

@@ -1,0 +1,106 @@
+-- Shares are laid, bin by bin.
+use Rattle.std.proofs.Common.{◌≡◌, ℕ, suc, ◌+◌, ◌-◌, ◌*◌, ◌<◌, ◌≤◌, ltb, List, [], ◌∷◌, ◌++◌, map, length, get_or, take, set, sym, refl, ap, ◌∙◌, subst, ⊎_elim, arith}
+use Rattle.std.proofs.lemmas.List.{length-map, length-append, map-append, take_more, length-take-le, get_or_past, get_or_push, get_or_append_left, get_or-map, get_or-set_same, get_or-set_other}
+use Rattle.std.proofs.lemmas.Bool.{cases_eq, cases_lt, lt-ltb, le-ltb, cond-true, cond-false}
+use Rattle.plan.specs.declared.bin.Bin.{Bin}
+use Rattle.layout_laws.specs.Shares.{share, before}
+use Rattle.layout_laws.specs.Semi.{room, free, shared, semi_start}
+use Rattle.layout_laws.proofs.Sums.{before_more}
+use Rattle.layout.specs.declared.share.Share.{Share}
+use Rattle.layout.specs.Parts.{load_of, reserve_of, start_of}
+
+-- the shares of the first i bins; `left` is what the processors so far have left beside their own bins, and `taken` what the other bins
+-- have taken of it
+pub record Laid (S own : ℕ) (ws rs : List ℕ) (xs : List Share) (left taken i : ℕ) : Type 0 where
+  pub loads : map load_of xs ≡ take i ws
+  pub reserves : map reserve_of xs ≡ take i rs
+  pub starts : (q : ℕ) → q < i → get_or (map start_of xs) q 0 ≡ semi_start S own rs q
+  pub left_is : i ≤ own → left ≡ free S rs i
+  pub taken_is : taken ≡ shared own rs i
+  pub near : (q : ℕ) → get_or (map start_of xs) q 0 ≤ i * 1000000
+  pub bounded : (left ≤ i * 1000000) × (taken ≤ i * 1000000)
+
+pub laid_none : (S own : ℕ) (ws rs : List ℕ) (xs : List Share) → xs ≡ [] → Laid S own ws rs xs 0 0 0
+unfolding before
+laid_none S own ws rs xs e = subst (λ ys. Laid S own ws rs ys 0 0 0) (sym e) (record {
+  loads = refl;
+  reserves = refl;
+  starts = λ q l. absurd (omega arith);
+  left_is = λ _. refl;
+  taken_is = let none : 0 ≡ 0 - own = omega arith in ap (before (λ k. share rs (own + k))) none;
+  near = λ q. omega arith;
+  bounded = (omega arith, omega arith);
+})
+
+-- the same shares and sums, spelled otherwise
+pub laid_as : {S own : ℕ} {ws rs : List ℕ} {xs xs' : List Share} {left left' taken taken' i : ℕ} → xs' ≡ xs → left' ≡ left → taken' ≡ taken → Laid S own ws rs xs left taken i → Laid S own ws rs xs' left' taken' i
+laid_as {S} {own} {ws} {rs} {xs} {xs'} {left} {left'} {taken} {taken'} {i} a b c l =
+    subst (λ ys. Laid S own ws rs ys left' taken' i) (sym a) (subst (λ y. Laid S own ws rs xs y taken' i) (sym b) (subst (λ y. Laid S own ws rs xs left y i) (sym c) l))
+
+-- a number of the bin that is read at place i
+pub read_at : (f : Bin → ℕ) (bs : List Bin) (xs : List ℕ) (i : ℕ) (d : Bin) → map f bs ≡ xs → i < length bs → f (get_or bs i d) ≡ get_or xs i 0
+read_at f bs xs i d e l = sym (get_or-map f bs i d 0 l) ∙ ap (λ ys. get_or ys i 0) e
+
+-- one more number at the end of a list, whose place i it takes
+push_at : (P : ℕ → ℕ → Type 0) (xs : List ℕ) (y i : ℕ) → length xs ≡ i → ((q : ℕ) → q < i → P q (get_or xs q 0)) → P i y → (q : ℕ) → q < i + 1 → P q (get_or (xs ++ y ∷ []) q 0)
+push_at P xs y i n before here q l = ⊎_elim (λ e. subst (λ k. P k (get_or (xs ++ y ∷ []) k 0)) (sym e) (subst (P i) (sym (get_or_push xs y 0 i n)) here)) (λ e. subst (P q) (sym (get_or_append_left xs (y ∷ []) 0 q (omega arith))) (before q (omega arith))) (cases_eq q i)
+
+-- a number past the end of a list is 0
+bound_at : (xs : List ℕ) (y i b c : ℕ) → length xs ≡ i → b ≤ c → y ≤ c → ((q : ℕ) → get_or xs q 0 ≤ b) → (q : ℕ) → get_or (xs ++ y ∷ []) q 0 ≤ c
+bound_at xs y i b c n le here before q =
+    ⊎_elim (λ l. push_at (λ _ v. v ≤ c) xs y i n (λ k _. omega (arith, before k)) here q l)
+    (λ l. omega (arith, get_or_past (xs ++ y ∷ []) q 0 (omega (arith, length-append xs (y ∷ []))))) (cases_lt q (i + 1))
+
+module _ {S own : ℕ} {ws rs : List ℕ} {xs : List Share} {left taken i : ℕ} (l : Laid S own ws rs xs left taken i) (x : Share) (inside : i < length ws) (each : length rs ≡ length ws) (load : x.load ≡ get_or ws i 0) (reserve : x.reserve ≡ get_or rs i 0) (fits : x.reserve ≤ S) (short : S ≤ 1000000) where
+  count : length (map start_of xs) ≡ i
+  count = length-map xs start_of ∙ sym (length-map xs load_of) ∙ ap length l.loads ∙ length-take-le i ws (omega arith)
+
+  loads_more : map load_of (xs ++ x ∷ []) ≡ take (i + 1) ws
+  loads_more = map-append load_of xs (x ∷ []) ∙ ap (λ ys. ys ++ x.load ∷ []) l.loads ∙ ap (λ v. take i ws ++ v ∷ []) load ∙ sym (take_more ws i 0 inside)
+
+  reserves_more : map reserve_of (xs ++ x ∷ []) ≡ take (i + 1) rs
+  reserves_more = map-append reserve_of xs (x ∷ []) ∙ ap (λ ys. ys ++ x.reserve ∷ []) l.reserves ∙ ap (λ v. take i rs ++ v ∷ []) reserve ∙ sym (take_more rs i 0 (omega arith))
+
+  starts_more : x.start ≡ semi_start S own rs i → (q : ℕ) → q < i + 1 → get_or (map start_of (xs ++ x ∷ [])) q 0 ≡ semi_start S own rs q
+  starts_more here q h =
+      ap (λ ys. get_or ys q 0) (map-append start_of xs (x ∷ [])) ∙ push_at (λ k v. v ≡ semi_start S own rs k) (map start_of xs) x.start i count l.starts here q h
+
+  near_more : x.start ≤ (i + 1) * 1000000 → (q : ℕ) → get_or (map start_of (xs ++ x ∷ [])) q 0 ≤ (i + 1) * 1000000
+  near_more here q =
+      omega (arith, ap (λ ys. get_or ys q 0) (map-append start_of xs (x ∷ [])), bound_at (map start_of xs) x.start i (i * 1000000) ((i + 1) * 1000000) count (omega arith) here l.near q)
+
+  -- a bin that has a processor of its own
+  pub laid_own : i < own → x.start ≡ left + (S - x.reserve) → Laid S own ws rs (xs ++ x ∷ []) (left + (S - x.reserve)) taken (i + 1)
+  laid_own low start =
+      let more : free S rs (suc i) ≡ left + (S - x.reserve) = omega (arith, before_more (room S rs) i, l.left_is (omega arith)) in
+      let one : i + 1 ≡ suc i = omega arith in
+      let none : i + 1 - own ≡ i - own = omega arith in
+      record {
+        loads = loads_more;
+        reserves = reserves_more;
+        starts = starts_more (start ∙ sym more ∙ sym (cond-true (ltb i own) (free S rs (suc i)) (shared own rs i) (lt-ltb i own low)));
+        left_is = λ _. sym more ∙ ap (free S rs) (sym one);
+        taken_is = l.taken_is ∙ ap (before (λ k. share rs (own + k))) (sym none);
+        near = near_more (omega (arith, l.bounded.0));
+        bounded = (omega (arith, l.bounded.0), omega (arith, l.bounded.1));
+      }
+
+  -- and one that has not
+  pub laid_other : own ≤ i → x.start ≡ taken → Laid S own ws rs (xs ++ x ∷ []) left (taken + x.reserve) (i + 1)
+  laid_other high start =
+      let more : i + 1 - own ≡ suc (i - own) = omega arith in
+      let here : own + (i - own) ≡ i = omega arith in
+      record {
+        loads = loads_more;
+        reserves = reserves_more;
+        starts = starts_more (start ∙ l.taken_is ∙ sym (cond-false (ltb i own) (free S rs (suc i)) (shared own rs i) (le-ltb i own high)));
+        left_is = λ h. absurd (omega arith);
+        taken_is = omega (arith, l.taken_is, ap (before (λ k. share rs (own + k))) more, before_more (λ k. share rs (own + k)) (i - own), ap (share rs) here);
+        near = near_more (omega (arith, l.bounded.1));
+        bounded = (omega (arith, l.bounded.0), omega (arith, l.bounded.1));
+      }
+
+-- an array that is right up to n is right to n + 1, once its place n is set right
+pub set_more : (f : ℕ → ℕ) (xs : List ℕ) (n y : ℕ) → n < length xs → y ≡ f n → ((p : ℕ) → p < n → get_or xs p 0 ≡ f p) → (p : ℕ) → p < n + 1 → get_or (set xs n y) p 0 ≡ f p
+set_more f xs n y h e before p l =
+    ⊎_elim (λ s. subst (λ k. get_or (set xs n y) k 0 ≡ f k) (sym s) (get_or-set_same xs n y 0 h ∙ e)) (λ s. get_or-set_other xs n p y 0 s ∙ before p (omega arith)) (cases_eq p n)

@@ -1,0 +1,66 @@
+ghost use Rattle.std.specs.Prelude.{◌≡◌, ℕ, ◌<◌, ◌≤◌, length, map, slice_index};
+ghost use Rattle.layout_laws.specs.Meaning.{in_time};
+ghost use Rattle.layout_laws.specs.Offset.{offset};
+ghost use Rattle.layout_laws.specs.Semi.{free};
+ghost use Rattle.layout.specs.Parts.{load_of, reserve_of, start_of};
+ghost use Rattle.layout.specs.Shared.{position};
+
+use super::Shares;
+use crate::TICKS;
+
+impl Shares {
+    pub(crate) fn count(&self) -> u8
+        ensures { result ≡ length (map load_of self.now.bins.items) }
+    {
+        self.bins.len() as u8
+    }
+
+    // The load of a bin, 0 where there is no such bin.
+    pub(crate) fn load(&self, bin: u8) -> u32
+        ensures { result ≡ slice_index (map load_of self.now.bins.items) bin }
+    {
+        self.bins.get(bin as usize).map_or(0, |share| share.load)
+    }
+
+    // The reserve of a bin, 0 where there is no such bin.
+    fn reserve(&self, bin: usize) -> u32
+        ensures { result ≡ slice_index (map reserve_of self.now.bins.items) bin }
+    {
+        self.bins.get(bin).map_or(0, |share| share.reserve)
+    }
+
+    // What the processors below each have left beside their own bins.
+    pub(crate) fn frees(&self) -> [u32; 17]
+        ensures { (q : ℕ) → q ≤ 16 → slice_index result q ≡ free self.now.slot (map reserve_of self.now.bins.items) q }
+    {
+        let mut frees = [0; 17];
+        let mut next = 0;
+        for (q, free) in frees.iter_mut().enumerate() {
+            *free = next;
+            next += self.slot - self.reserve(q);
+        }
+        frees
+    }
+
+    // The place of a bin that is served in the tick: where it starts, and the ticks of its reserve that went by.
+    pub(crate) fn position(&self, tick: u32, bin: u8) -> Option<u32>
+        ensures { result ≡ in_time tick (position self.now.slot (slice_index (map start_of self.now.bins.items) bin) (slice_index (map reserve_of self.now.bins.items) bin) tick) }
+    {
+        if tick >= TICKS {
+            return None;
+        }
+        let share = self.bins.get(bin as usize)?;
+        let k = offset(self.slot, share.start, tick);
+        (k < share.reserve).then_some(share.start + k)
+    }
+}
+
+// (tick - start) modulo the slot.
+fn offset(slot: u32, start: u32, tick: u32) -> u32
+    requires { 1 ≤ slot }
+    ensures is { result ≡ offset slot start tick }
+    ensures below { result < slot }
+{
+    let from = tick as u64 + (slot - start % slot) as u64;
+    (from % slot as u64) as u32
+}
