@@ -19,5 +19,5 @@ pub struct Line<'a, T: Ranked> {
 // Why a line refuses a record.
 #[derive(Clone, Copy, PartialEq, Eq, Debug)]
 pub enum LineRefusal {
-    Full,
+    Full = 29,
 }

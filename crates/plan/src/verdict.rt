@@ -9,16 +9,16 @@ use std::fmt;
 // A good plan has bins, a slot and reserves; else the first refusal that applied.
 pub type Verdict = Result<(), PlanRefusal>;
 
-// The refusals stand in the order in which a closing is tested.
+// The refusals stand in the order in which a closing is tested, each with its number.
 #[derive(Clone, Copy, PartialEq, Eq, Debug)]
 pub enum PlanRefusal {
     // Not 1 to 16 processors.
-    BadProcessors,
+    BadProcessors = 4,
     // Delta is not 1 to 16.
-    BadDelta,
-    NoRows,
+    BadDelta = 5,
+    NoRows = 25,
     // The shortest period is below delta, so that a slot would have no ticks.
-    ShortPeriod,
+    ShortPeriod = 26,
 }
 
 impl PlanRefusal {
@@ -26,12 +26,7 @@ impl PlanRefusal {
     pub fn number(self) -> u8
         ensures { result ≡ plan_number self }
     {
-        match self {
-            PlanRefusal::BadProcessors => 4,
-            PlanRefusal::BadDelta => 5,
-            PlanRefusal::NoRows => 25,
-            PlanRefusal::ShortPeriod => 26,
-        }
+        self as u8
     }
 }
 

@@ -1,4 +1,4 @@
-// Why a call is refused.
+// Why a call is refused: each case with its number.
 ghost use Rattle.std.specs.Prelude.{◌≡◌};
 ghost use Rattle.runner.specs.Refusals.{call_number};
 

@@ -11,9 +11,7 @@ impl LineRefusal {
     pub fn number(self) -> u8
         ensures { result ≡ refusal_number self }
     {
-        match self {
-            LineRefusal::Full => 29,
-        }
+        self as u8
     }
 }
 
