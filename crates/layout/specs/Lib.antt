@@ -1,4 +1,5 @@
 pub mod Refusals
+pub mod Words
 pub mod Makes
 pub mod Parts
 pub mod Shared

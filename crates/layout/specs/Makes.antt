@@ -34,6 +34,10 @@ pub record Fits (p : Planned) (m : Meaning) : Type 0 where
   pub shortest : p.shortest ≡ m.shortest
   pub loads : (q : ℕ) → slice_index p.loads q ≡ m.load q
 
--- what filling a place with a plan's layout leaves: `made` where the plan has it, and else the empty layout
-abbrev pub Filled : Result ⊤ NotMade → Planned → Type 0 → Meaning → Meaning → Type 0
-Filled result p Has made new = MatchResult result (λ u. Has × (new ≡ made) × Fits p new) (λ e. (¬ Has) × (new ≡ empty))
+-- what filling a place leaves there: the plan's layout where the plan has one, and else the empty layout
+abbrev pub Filled : (Planned → Type 0) → (Planned → Meaning) → Planned → Result ⊤ NotMade → Meaning → Type 0
+Filled Has layout_of p result new = MatchResult result (λ u. Has p × (new ≡ layout_of p) × Fits p new) (λ e. (¬ Has p) × (new ≡ empty))
+
+-- what making a layout of a plan gives, where x means m of a layout that was made
+abbrev pub Made : {X : Type 0} → (Planned → Type 0) → (Planned → Meaning) → Planned → (X → Meaning) → Result X NotMade → Type 0
+Made Has layout_of p m result = MatchResult result (λ x. Has p × (m x ≡ layout_of p)) (λ e. ¬ Has p)

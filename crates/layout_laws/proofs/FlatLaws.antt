@@ -23,7 +23,7 @@ answered k r x q e = go (ltb k r) refl e
   where
     go : (b : Bool) → ltb k r ≡ b → cond b (Some x) None ≡ Some q → Answered k r x q
     go true h e = record { early = ltb-true k r h; by = cc }
-    go false h e = let z : ◌≡◌ {A = ℕ} 0 1 = cc in absurd (omega arith)
+    go false h e = cc
 
 module _ (S m : ℕ) (rs : List ℕ) (fit : Fit S m rs) (t : ℕ) where
   within : (p q : ℕ) → flat_serves S rs t p ≡ Some q → q < m

@@ -15,7 +15,7 @@ timed t o q e = go (ltb t horizon) e
   where
     go : (b : Bool) → cond b o None ≡ Some q → o ≡ Some q
     go true e = e
-    go false e = let z : ◌≡◌ {A = ℕ} 0 1 = cc in absurd (omega arith)
+    go false e = cc
 
 pub in_range : (t : ℕ) (o : Option ℕ) → t < horizon → in_time t o ≡ o
 in_range t o l = cond-true (ltb t horizon) o None (lt-ltb t horizon l)

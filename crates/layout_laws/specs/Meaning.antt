@@ -1,5 +1,5 @@
 -- What a layout means, and what every layout owes.
-use Rattle.std.specs.Prelude.{◌≡◌, ℕ, zero, suc, ◌+◌, ◌*◌, ◌<◌, ◌≤◌, cond, Some, None, Option, nat_lt}
+use Rattle.std.specs.Prelude.{◌≡◌, ℕ, zero, suc, ◌+◌, ◌*◌, ◌<◌, ◌≤◌, if◌then◌else◌, Some, None, Option, nat_lt}
 use Rattle.plan.specs.Method.{full}
 
 -- ticks run from 0 to one below this
@@ -16,7 +16,7 @@ pub record Meaning : Type 0 where
 
 -- an answer that holds in the ticks of the range only
 abbrev pub in_time : ℕ → Option ℕ → Option ℕ
-in_time t answer = cond (nat_lt t horizon) answer None
+in_time t answer = if nat_lt t horizon then answer else None
 
 -- the bounds that every layout keeps: bins and ticks that are not there are not served
 pub record Formed (m : Meaning) : Type 0 where

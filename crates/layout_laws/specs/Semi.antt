@@ -1,6 +1,6 @@
 -- The semi-partitioned layout: bin q below m has the end of processor q's slot, and the other bins share what is left, wrapped over the
 -- processors.
-use Rattle.std.specs.Prelude.{ℕ, zero, suc, ◌+◌, ◌-◌, ◌<◌, ◌≤◌, cond, List, length, Some, None, Option, nat_le, nat_lt, slice_index}
+use Rattle.std.specs.Prelude.{ℕ, zero, suc, ◌+◌, ◌-◌, ◌<◌, ◌≤◌, if◌then◌else◌, List, length, Some, None, Option, nat_le, nat_lt, slice_index}
 use Rattle.layout_laws.specs.Offset.{offset}
 use Rattle.layout_laws.specs.Meaning.{Meaning, in_time}
 use Rattle.layout_laws.specs.Shares.{share, before}
@@ -19,21 +19,21 @@ shared m rs p = before (λ i. share rs (m + i)) (p - m)
 
 -- where bin p starts: in its own processor's slot, after what the processors up to that one have left, or in what is left
 abbrev pub semi_start : ℕ → ℕ → List ℕ → ℕ → ℕ
-semi_start S m rs p = cond (nat_lt p m) (free S rs (suc p)) (shared m rs p)
+semi_start S m rs p = if nat_lt p m then free S rs (suc p) else shared m rs p
 
 -- the greatest q below n with f q ≤ x, or 0
 unfoldable pub highest : (ℕ → ℕ) → ℕ → ℕ → ℕ
 highest f x zero = 0
-highest f x (suc n) = cond (nat_le (f n) x) n (highest f x n)
+highest f x (suc n) = if nat_le (f n) x then n else highest f x n
 
 abbrev pub own_serves : ℕ → List ℕ → ℕ → ℕ → Option ℕ
-own_serves S rs t p = cond (nat_lt (offset S (free S rs (suc p)) t) (share rs p)) (Some p) None
+own_serves S rs t p = if nat_lt (offset S (free S rs (suc p)) t) (share rs p) then Some p else None
 
 abbrev pub shared_serves : ℕ → ℕ → List ℕ → ℕ → ℕ → Option ℕ
-shared_serves S m rs t p = cond (nat_lt (offset S (shared m rs p) t) (share rs p)) (Some (highest (free S rs) (shared m rs p + offset S (shared m rs p) t) m)) None
+shared_serves S m rs t p = if nat_lt (offset S (shared m rs p) t) (share rs p) then Some (highest (free S rs) (shared m rs p + offset S (shared m rs p) t) m) else None
 
 abbrev pub semi_serves : ℕ → ℕ → List ℕ → ℕ → ℕ → Option ℕ
-semi_serves S m rs t p = cond (nat_lt p m) (own_serves S rs t p) (shared_serves S m rs t p)
+semi_serves S m rs t p = if nat_lt p m then own_serves S rs t p else shared_serves S m rs t p
 
 -- slot S, m processors, shortest period T, reserves rs and loads ws
 abbrev pub semi : ℕ → ℕ → ℕ → List ℕ → List ℕ → Meaning

@@ -7,7 +7,8 @@ use Rattle.schedule.specs.Work.{Work}
 use Rattle.schedule.specs.State.{State}
 use Rattle.schedule.specs.Steps.{Runs, Row, Advanced}
 use Rattle.schedule.specs.History.{Event, Run, start, more, holds}
-use Rattle.schedule.specs.Promise.{OneEach, All}
+use Rattle.std.specs.List.{AllByRecursion}
+use Rattle.schedule.specs.Promise.{OneEach}
 use Rattle.schedule.proofs.Moves.{Move, quiet, opening, closing, ticking, moved}
 
 -- a place that names a task below 255: the task runs there
@@ -39,7 +40,7 @@ one_move (opening i l o) = λ q q' l l' h h' e. omega arith
 one_move (closing i l o) = λ q q' l l' h h' e. omega arith
 one_move (ticking l r a) = λ q q' l l' h h' e. one_row r q q' h h' e
 
-pub one_each : {w : Work} {m : Meaning} {s s' : State} {es : List Event} → Run w m s es s' → All (OneEach w) es
+pub one_each : {w : Work} {m : Meaning} {s s' : State} {es : List Event} → Run w m s es s' → AllByRecursion (OneEach w) es
 one_each start = tt
 one_each (more st r) = (one_move (moved st), one_each r)
 

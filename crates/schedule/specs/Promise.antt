@@ -1,5 +1,6 @@
 -- What every run keeps, whatever is asked in whatever order.
 use Rattle.std.specs.Prelude.{◌≡◌, ℕ, suc, ◌<◌, ◌≤◌, Bool, true, cond, ◌&&◌, List, [], ◌∷◌, map, length, ◌==◌, nat_lt, slice_index_or}
+use Rattle.std.specs.List.{AllByRecursion}
 use Rattle.layout_laws.specs.Meaning.{Meaning}
 use Rattle.schedule.specs.Work.{Work, Sound}
 use Rattle.schedule.specs.State.{State, Fresh}
@@ -20,11 +21,6 @@ OnlyAsked es = (i : ℕ) → i < 255 → many (accepted_request i) es ≡ 0 → 
 -- two places of a row that name tasks of one bin are one place
 abbrev pub OneEach : Work → Event → Type 0
 OneEach w e = (q q' : ℕ) → q < length e.row → q' < length e.row → slice_index_or e.row q 255 < 255 → slice_index_or e.row q' 255 < 255 → w.bin (slice_index_or e.row q 255) ≡ w.bin (slice_index_or e.row q' 255) → q ≡ q'
-
--- each of the events
-abbrev pub All : (Event → Type 0) → List Event → Type 0
-All P [] = Unit {0}
-All P (e ∷ es) = P e × All P es
 
 -- a tick, or a call for a task of bin p
 abbrev pub of_bin : Work → ℕ → Asked → Bool
@@ -70,7 +66,7 @@ pub record Kept (w : Work) (m : Meaning) (s : State) : Type 0 where
   pub on_time : (es : List Event) (s' : State) → Run w m s es s' → OnTime w es
   pub within_budget : (es : List Event) (s' : State) → Run w m s es s' → WithinBudget w es
   pub only_asked : (es : List Event) (s' : State) → Run w m s es s' → OnlyAsked es
-  pub one_each : (es : List Event) (s' : State) → Run w m s es s' → All (OneEach w) es
+  pub one_each : (es : List Event) (s' : State) → Run w m s es s' → AllByRecursion (OneEach w) es
   pub isolated : (m' : Meaning) → Same m m' → (s₂ : State) → Fresh s₂ → (p : ℕ) (es es' : List Event) (t t' : State) → Run w m s es t → Run w m' s₂ es' t' → asked_of w p es ≡ asked_of w p es' → seen_of w p es ≡ seen_of w p es'
 
 -- the promise: every run of a plan that fits, from the start

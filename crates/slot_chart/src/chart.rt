@@ -8,43 +8,33 @@ pub struct Chart<'a, L> {
     pub slot: u32,
 }
 
-// The bin that a processor serves in a tick, if any.
-fn bin_on<L: Layout>(layout: &L, processor: u8, tick: u32) -> Option<u8> {
-    for bin in 0..layout.bins() {
-        if let Some(q) = layout.serve(tick, bin) {
-            if q == processor {
-                return Some(bin);
-            }
-        }
+impl<L: Layout> Chart<'_, L> {
+    // The bin that a processor serves in a tick, if any.
+    fn bin_on(&self, processor: u8, tick: u32) -> Option<u8> {
+        (0..self.layout.bins()).find(|bin| self.layout.serve(tick, *bin) == Some(processor))
     }
-    None
-}
 
-// A processor's line, with the ticks in use behind it.
-fn line<L: Layout, W: fmt::Write>(
-    layout: &L,
-    processor: u8,
-    slot: u32,
-    f: &mut fmt::Formatter<W>,
-) -> fmt::Result {
-    let mut used = 0u32;
-    write!(f, "{processor:>3} |")?;
-    for tick in 0..slot {
-        match bin_on(layout, processor, tick) {
-            Some(bin) => {
-                used = used.saturating_add(1);
-                write!(f, "{bin}")?;
+    // A processor's line, with the ticks in use behind it.
+    fn line<W: fmt::Write>(&self, processor: u8, f: &mut fmt::Formatter<W>) -> fmt::Result {
+        write!(f, "{processor:>3} |")?;
+        for tick in 0..self.slot {
+            match self.bin_on(processor, tick) {
+                Some(bin) => write!(f, "{bin}")?,
+                None => f.write_str(".")?,
             }
-            None => f.write_str(".")?,
         }
+        let used = (0..self.slot)
+            .filter(|tick| self.bin_on(processor, *tick).is_some())
+            .count();
+        let slot = self.slot;
+        writeln!(f, "| {used} of {slot} in use")
     }
-    writeln!(f, "| {used} of {slot} in use")
 }
 
 impl<L: Layout> fmt::Display for Chart<'_, L> {
     fn fmt<W: fmt::Write>(&self, f: &mut fmt::Formatter<W>) -> fmt::Result {
         for processor in 0..self.layout.processors() {
-            line(self.layout, processor, self.slot, f)?;
+            self.line(processor, f)?;
         }
         Ok(())
     }

@@ -34,35 +34,28 @@ fn show<L: Layout>(
             println!(rt; "{name}")?;
             print!(rt; "{}", Chart { layout, slot })
         }
-        Err(refusal) => {
-            let number = refusal.number();
-            println!(rt; "{name}: refused {number}")
-        }
+        Err(refusal) => println!(rt; "{name}: refused {}", refusal.number()),
     }
 }
 
 fn show_all(rt: &HostRuntime, plan: &Plan) -> io::Result<()> {
-    let processors = plan.processors();
-    let bins = plan.bins();
     let slot = plan.slot();
-    println!(rt; "{bins} bins on {processors} processors, slot of {slot} ticks")?;
+    println!(rt;
+        "{} bins on {} processors, slot of {slot} ticks",
+        plan.bins(),
+        plan.processors()
+    )?;
     let mut flat = Flat::empty();
-    let made = flat.fill(plan);
-    show(rt, "flat", made, &flat, slot)?;
+    show(rt, "flat", flat.fill(plan), &flat, slot)?;
     let mut semi = Semi::empty();
-    let made = semi.fill(plan);
-    show(rt, "semi-partitioned", made, &semi, slot)?;
+    show(rt, "semi-partitioned", semi.fill(plan), &semi, slot)?;
     let mut dedicated = Dedicated::empty();
-    let made = dedicated.fill(plan);
-    show(rt, "dedicated", made, &dedicated, slot)
+    show(rt, "dedicated", dedicated.fill(plan), &dedicated, slot)
 }
 
 fn main(rt: HostRuntime) -> io::Result<()> {
     match lab() {
         Ok(table) => show_all(&rt, &table.close(3, 1)),
-        Err(refusal) => {
-            let number = refusal.number();
-            println!(rt; "refused {number}")
-        }
+        Err(refusal) => println!(rt; "refused {}", refusal.number()),
     }
 }

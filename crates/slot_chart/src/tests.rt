@@ -25,31 +25,17 @@ fn made(plan: &Plan) -> (bool, bool, bool) {
 
 #[test]
 fn made_on_three(rt: HostRuntime) -> Result<(), Fail> {
-    match three_bins(3) {
-        Ok(plan) => {
-            let (a, b, c) = made(&plan);
-            assert!(rt; a && b && c);
-            Ok(())
-        }
-        Err(_) => Err(Fail::new("refused")),
-    }
+    let (a, b, c) = made(&three_bins(3)?);
+    assert!(rt; a && b && c);
+    Ok(())
 }
 
 #[test]
 fn not_on_two(rt: HostRuntime) -> Result<(), Fail> {
-    match three_bins(2) {
-        Ok(plan) => {
-            let mut flat = Flat::empty();
-            let number = match flat.fill(&plan) {
-                Ok(()) => 0,
-                Err(refusal) => refusal.number(),
-            };
-            let (a, b, c) = made(&plan);
-            assert!(rt;
-                number == 27 && !a && !b && !c && flat.processors() == 1 && flat.bins() == 0
-            );
-            Ok(())
-        }
-        Err(_) => Err(Fail::new("refused")),
-    }
+    let plan = three_bins(2)?;
+    let mut flat = Flat::empty();
+    let number = flat.fill(&plan).err().map(|refusal| refusal.number());
+    let (a, b, c) = made(&plan);
+    assert!(rt; number == Some(27) && !a && !b && !c && flat.processors() == 1 && flat.bins() == 0);
+    Ok(())
 }

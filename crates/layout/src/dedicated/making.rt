@@ -1,8 +1,8 @@
 // Making a dedicated layout.
-ghost use Rattle.std.specs.Prelude.{◌≡◌, MatchResult};
+ghost use Rattle.std.specs.Prelude.{◌≡◌};
 ghost use Rattle.plan.specs.Plans.{planned};
 ghost use Rattle.layout_laws.specs.Meaning.{empty};
-ghost use Rattle.layout.specs.Makes.{Spacious, dedicated_of, Filled};
+ghost use Rattle.layout.specs.Makes.{Spacious, dedicated_of, Filled, Made};
 ghost use Rattle.layout.specs.Views.{dedicated_view};
 
 use super::Dedicated;
@@ -23,7 +23,7 @@ impl Dedicated {
     }
 
     fn of(plan: &Plan) -> Result<Dedicated, NotMade>
-        ensures { MatchResult result (λ x. Spacious (planned plan.now) × (dedicated_view x ≡ dedicated_of (planned plan.now))) (λ e. ¬ Spacious (planned plan.now)) }
+        ensures { Made Spacious dedicated_of (planned plan.now) dedicated_view result }
     {
         if plan.verdict().is_err() || plan.bins() > plan.processors() {
             return Err(NotMade);
@@ -41,7 +41,7 @@ impl Dedicated {
 
     // Makes this place the dedicated layout of a plan, or where the plan has none, the empty layout.
     pub fn fill(&mut self, plan: &Plan) -> Result<(), NotMade>
-        ensures { Filled result (planned plan.now) (Spacious (planned plan.now)) (dedicated_of (planned plan.now)) (dedicated_view self.new) }
+        ensures { Filled Spacious dedicated_of (planned plan.now) result (dedicated_view self.new) }
     {
         *self = Dedicated::empty();
         *self = Dedicated::of(plan)?;

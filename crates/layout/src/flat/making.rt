@@ -1,8 +1,8 @@
 // Making a flat layout.
-ghost use Rattle.std.specs.Prelude.{◌≡◌, MatchResult};
+ghost use Rattle.std.specs.Prelude.{◌≡◌};
 ghost use Rattle.plan.specs.Plans.{planned};
 ghost use Rattle.layout_laws.specs.Meaning.{empty};
-ghost use Rattle.layout.specs.Makes.{Roomy, flat_of, Filled};
+ghost use Rattle.layout.specs.Makes.{Roomy, flat_of, Filled, Made};
 ghost use Rattle.layout.specs.Views.{flat_view};
 
 use super::Flat;
@@ -21,7 +21,7 @@ impl Flat {
     }
 
     fn of(plan: &Plan) -> Result<Flat, NotMade>
-        ensures { MatchResult result (λ x. Roomy (planned plan.now) × (flat_view x ≡ flat_of (planned plan.now))) (λ e. ¬ Roomy (planned plan.now)) }
+        ensures { Made Roomy flat_of (planned plan.now) flat_view result }
     {
         let shares = Shares::of(plan, 0)?;
         Ok(Flat { shares })
@@ -30,7 +30,7 @@ impl Flat {
     // Makes this place the flat layout of a plan, or where the plan has none, the empty layout.
     // No plainer as one function for the three layouts: each would hand it its empty layout and the one that it made.
     pub fn fill(&mut self, plan: &Plan) -> Result<(), NotMade>
-        ensures { Filled result (planned plan.now) (Roomy (planned plan.now)) (flat_of (planned plan.now)) (flat_view self.new) }
+        ensures { Filled Roomy flat_of (planned plan.now) result (flat_view self.new) }
     {
         *self = Flat::empty();
         *self = Flat::of(plan)?;

@@ -1,8 +1,8 @@
 // Making a semi-partitioned layout.
-ghost use Rattle.std.specs.Prelude.{◌≡◌, MatchResult};
+ghost use Rattle.std.specs.Prelude.{◌≡◌};
 ghost use Rattle.plan.specs.Plans.{planned};
 ghost use Rattle.layout_laws.specs.Meaning.{empty};
-ghost use Rattle.layout.specs.Makes.{Roomy, semi_of, Filled};
+ghost use Rattle.layout.specs.Makes.{Roomy, semi_of, Filled, Made};
 ghost use Rattle.layout.specs.Views.{semi_view};
 
 use super::Semi;
@@ -23,7 +23,7 @@ impl Semi {
     }
 
     fn of(plan: &Plan) -> Result<Semi, NotMade>
-        ensures { MatchResult result (λ x. Roomy (planned plan.now) × (semi_view x ≡ semi_of (planned plan.now))) (λ e. ¬ Roomy (planned plan.now)) }
+        ensures { Made Roomy semi_of (planned plan.now) semi_view result }
     {
         let shares = Shares::of(plan, plan.processors())?;
         Ok(Semi {
@@ -34,7 +34,7 @@ impl Semi {
 
     // Makes this place the semi-partitioned layout of a plan, or where the plan has none, the empty layout.
     pub fn fill(&mut self, plan: &Plan) -> Result<(), NotMade>
-        ensures { Filled result (planned plan.now) (Roomy (planned plan.now)) (semi_of (planned plan.now)) (semi_view self.new) }
+        ensures { Filled Roomy semi_of (planned plan.now) result (semi_view self.new) }
     {
         *self = Semi::empty();
         *self = Semi::of(plan)?;
