@@ -21,7 +21,7 @@ same_bytes h ts calls f m = written_back f h ts calls m
 
 -- the header and the section of the table
 pub tabled : (p p₁ p₂ p₃ : Pen) (h : Settings) (rows : List ℕ) (n : ℕ) → n ≡ length rows → Puts p (header h) p₁ → Puts p₁ (84 ∷ two n) p₂ → Puts p₂ rows p₃ → Puts p (header h ++ section 84 rows) p₃
-tabled p p₁ p₂ p₃ h rows n e x y z = puts_then p p₁ p₃ (header h) (section 84 rows) x (puts_then p₁ p₂ p₃ (84 ∷ two (length rows)) rows (subst (λ k. Puts p₁ (84 ∷ two k) p₂) e y) z)
+tabled p p₁ p₂ p₃ h rows n e x y z = puts_then x (puts_then (subst (λ k. Puts p₁ (84 ∷ two k) p₂) e y) z)
 
 -- no calls, no section
 pub no_section : (calls : List ℕ) → length calls ≡ 0 → calls_section calls ≡ []

@@ -1,11 +1,10 @@
-use Rattle.std.proofs.Common.{◌≡◌, ◌∷◌, ◌++◌, length, sym, ap, ◌∙◌, subst}
+use Rattle.std.proofs.Common.{◌≡◌, ◌++◌, length, sym, ap, ◌∙◌, subst}
 use Rattle.std.specs.List.{flat_map}
 use Rattle.std.proofs.lemmas.List.{append-nil}
 use Rattle.std.proofs.lemmas.Bool.{eqb-true}
 use Rattle.plan.specs.Views.{tasks}
 use Rattle.areas.specs.Pens.{Puts}
 use Rattle.areas.proofs.Putting.{puts_then}
-use Rattle.file_reader.specs.Bytes.{two}
 use Rattle.file_reader.specs.Grammar.{header, section, row_bytes}
 use Rattle.planfile.proofs.FileWritten.{tabled, no_section, some_section}
 use Rattle.planfile.proofs.telling.put_file.Goals as goal
@@ -19,8 +18,8 @@ returns-then-not-is_empty c =
     let p₃ = c.put_rows.new.pen in
     let p₅ = c.put-then-not-is_empty.new.self in
     let front = tabled p c.put.new.self c.put_head.new.pen p₃ h rows c.rows_len.result c.rows_len.ensures c.put.ensures.put c.put_head.ensures c.put_rows.ensures in
-    let called = puts_then p₃ c.put_head-then-not-is_empty.new.pen p₅ (67 ∷ two (length calls)) calls c.put_head-then-not-is_empty.ensures c.put-then-not-is_empty.ensures.put in
-    let all = puts_then p p₃ p₅ (header h ++ section 84 rows) (section 67 calls) front called in
+    let called = puts_then c.put_head-then-not-is_empty.ensures c.put-then-not-is_empty.ensures.put in
+    let all = puts_then front called in
     subst (λ l. Puts p (header h ++ section 84 rows ++ l) p₅) (sym (some_section calls (sym c.if-not-is_empty.ensures))) all
 
 pub returns-else-not-is_empty : goal.returns-else-not-is_empty

@@ -20,4 +20,4 @@ returns c =
     let period = subst (λ bs. Puts p₁ bs p₂) (c.to_be_bytes-2.ensures ∙ long_spelled c.period.result (search rules) ∙ ap four c.period.ensures) c.put-2.ensures.put in
     let len = subst (λ bs. Puts p₂ (length bs ∷ []) p₃) same c.put-3.ensures.put in
     let bytes = subst (λ bs. Puts p₃ bs p₄) same c.put-4.ensures.put in
-    puts_then p p₁ p₄ (four r.budget) _ budget (puts_then p₁ p₂ p₄ (four r.period) _ period (puts_then p₂ p₃ p₄ (length name ∷ []) name len bytes))
+    puts_then budget (puts_then period (puts_then len bytes))

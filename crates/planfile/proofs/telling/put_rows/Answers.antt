@@ -1,4 +1,4 @@
-use Rattle.std.proofs.Common.{take, sym, ap, ◌∙◌, subst}
+use Rattle.std.proofs.Common.{sym, ap, ◌∙◌, subst}
 use Rattle.std.specs.List.{flat_map}
 use Rattle.std.proofs.lemmas.List.{take_all}
 use Rattle.areas.specs.Pens.{Puts}
@@ -15,7 +15,7 @@ loop-row-preserved c =
     let rs = c.rows-row-items.result.now in
     let i = c.loop-row.row-index in
     let r = c.row-item.result in
-    subst (λ bs. Puts c.args.pen.now bs c.put_row.new.pen) (sym (row_more rs i r c.loop-row-test.true c.row-item.is)) (puts_then c.args.pen.now c.loop-row.pen c.put_row.new.pen (flat_map spelled (take i rs)) (spelled r) c.loop-row.invariant c.put_row.ensures)
+    subst (λ bs. Puts c.args.pen.now bs c.put_row.new.pen) (sym (row_more rs i r c.loop-row-test.true c.row-item.is)) (puts_then c.loop-row.invariant c.put_row.ensures)
 
 pub returns : goal.returns
 returns c =
