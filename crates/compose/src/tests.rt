@@ -261,10 +261,8 @@ fn holds(file: &[u8], case: &Case) -> bool {
 #[test]
 fn what_is_composed_reads_back(rt: HostRuntime) -> Result<(), Fail> {
     for case in CASES.iter() {
-        match compose(rt.alloc(), case.text) {
-            Ok(file) => assert!(rt; holds(&file, case), "{}", case.text),
-            Err(_) => return Err(Fail::new(case.text)),
-        }
+        let file = compose(rt.alloc(), case.text).map_err(|_| Fail::new(case.text))?;
+        assert!(rt; holds(&file, case), "{}", case.text);
     }
     Ok(())
 }

@@ -20,30 +20,33 @@ fn write_back(
     file: &[u8],
     table: &Table,
     contents: Contents<'_>,
-) -> anyhow::Result<bool> {
+) -> anyhow::Result<ExitCode> {
     let mut area = vec![in rt.alloc(); 0u8; file.len()]?;
-    let written = write(table, contents.settings, contents.calls, &mut area);
-    let good = written.is_ok() && (contents.noted || area.as_slice() == file);
-    let len = written.unwrap_or(0);
-    if !good {
-        println!(rt; "not written back byte for byte")?;
-    } else if contents.noted {
-        println!(rt; "notes are not written back: the file has {len} bytes without them")?;
-    } else {
-        println!(rt; "written back byte for byte, {len} bytes")?;
+    match write(table, contents.settings, contents.calls, &mut area) {
+        Ok(len) if contents.noted => {
+            println!(rt; "notes are not written back: the file has {len} bytes without them")?;
+            Ok(ExitCode::SUCCESS)
+        }
+        Ok(len) if area.as_slice() == file => {
+            println!(rt; "written back byte for byte, {len} bytes")?;
+            Ok(ExitCode::SUCCESS)
+        }
+        _ => {
+            println!(rt; "not written back byte for byte")?;
+            Ok(ExitCode::FAILURE)
+        }
     }
-    Ok(good)
 }
 
-// Prints what the file holds, or its refusal; whether all is well with it.
-fn run(rt: &HostRuntime) -> anyhow::Result<bool> {
+// Prints what the file holds, or its refusal: the lines say all, and the status says whether something is wrong.
+fn main(rt: HostRuntime) -> anyhow::Result<ExitCode> {
     let mut file = Vec::new(rt.alloc());
     rt.stdin()
         .take(MOST_BYTES as u64 + 1)
         .read_to_end(&mut file)?;
     if file.len() > MOST_BYTES {
         println!(rt; "refused 18: the file has more than {MOST_BYTES} bytes")?;
-        return Ok(false);
+        return Ok(ExitCode::FAILURE);
     }
     let mut table = Table::new();
     match read(&file, &mut table) {
@@ -58,20 +61,11 @@ fn run(rt: &HostRuntime) -> anyhow::Result<bool> {
                     layout
                 }
             )?;
-            write_back(rt, &file, &table, contents)
+            write_back(&rt, &file, &table, contents)
         }
         Err(fault) => {
             println!(rt; "{}", Refused(fault))?;
-            Ok(false)
+            Ok(ExitCode::FAILURE)
         }
-    }
-}
-
-fn main(rt: HostRuntime) -> anyhow::Result<ExitCode> {
-    if run(&rt)? {
-        Ok(ExitCode::SUCCESS)
-    } else {
-        // The lines that were printed say all; the status says that something is wrong.
-        Ok(ExitCode::FAILURE)
     }
 }

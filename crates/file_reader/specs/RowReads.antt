@@ -6,6 +6,10 @@ use Rattle.file_reader.specs.declared.rows.RowRead.{RowRead}
 use Rattle.file_reader.specs.Bytes.{long_at}
 use Rattle.file_reader.specs.Faults.{name_length}
 
+abbrev pub row_fault_number : RowFault → ℕ
+row_fault_number Name = 15
+row_fault_number Cut = 16
+
 abbrev pub failed : RowFault → RowRead
 failed fault = record { budget = 0; period = 0; name_at = 0; name_len = 0; fault = Some fault }
 

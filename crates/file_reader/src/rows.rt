@@ -3,20 +3,29 @@ ghost use Rattle.std.specs.Prelude.{◌≡◌, ◌+◌, ◌≤◌, length, drop,
 ghost use Rattle.file_reader.specs.Bytes.{four, long_at, Stands};
 ghost use Rattle.file_reader.specs.Grammar.{row_bytes};
 ghost use Rattle.file_reader.specs.Faults.{task_at};
-ghost use Rattle.file_reader.specs.RowReads.{failed, row_read, row_used};
+ghost use Rattle.file_reader.specs.RowReads.{failed, row_read, row_used, row_fault_number};
 
 use plan::name::NAME_BYTES;
 
 // A row's numbers come first, then the length of its name.
 const NUMBERS: usize = 9;
 
-// What is wrong with a row's form.
+// What is wrong with a row's form, with its number.
 #[derive(Clone, Copy, Debug, PartialEq, Eq)]
 pub enum RowFault {
     // The length of its name.
-    Name,
+    Name = 15,
     // The bytes end inside it.
-    Cut,
+    Cut = 16,
+}
+
+impl RowFault {
+    // The fault's number, by which files, firmware and reports know it.
+    pub fn number(self) -> u8
+        ensures { result ≡ row_fault_number self }
+    {
+        self as u8
+    }
 }
 
 // A row as its bytes tell it: its numbers, and where its name stands among them; or what is wrong with its form, and zeros.

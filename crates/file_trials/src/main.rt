@@ -70,30 +70,18 @@ fn is_trial(line: &&str) -> bool {
     !line.starts_with('#')
 }
 
-// Prints the lines that do not tell the answer; whether there are none.
-fn hold(rt: &HostRuntime, text: &str) -> anyhow::Result<bool> {
-    let mut good = true;
+// Prints the lines that do not tell the answer; the status says whether there are some.
+fn main(rt: HostRuntime) -> anyhow::Result<ExitCode> {
+    let mut text = String::new(rt.alloc());
+    rt.stdin().read_to_string(&mut text)?;
+    let mut status = ExitCode::SUCCESS;
     for line in text.lines().filter(is_trial) {
         if !tells(rt.alloc(), line)? {
-            good = false;
+            status = ExitCode::FAILURE;
             println!(rt; "not so: {line}")?;
         }
     }
     let trials = text.lines().filter(is_trial).count();
     println!(rt; "{trials} trials")?;
-    Ok(good)
-}
-
-fn run(rt: &HostRuntime) -> anyhow::Result<bool> {
-    let mut text = String::new(rt.alloc());
-    rt.stdin().read_to_string(&mut text)?;
-    hold(rt, text.as_str())
-}
-
-fn main(rt: HostRuntime) -> anyhow::Result<ExitCode> {
-    if run(&rt)? {
-        Ok(ExitCode::SUCCESS)
-    } else {
-        Ok(ExitCode::FAILURE)
-    }
+    Ok(status)
 }

@@ -7,6 +7,7 @@ use std::alloc::{AllocError, Global};
 const BLANK: u8 = 0xEE;
 
 // As a line of the table tells it: a refusal's number and place. For a file that is read 0 and 0, for one that is written 0 and its length.
+// No plainer as a refusal: the table's lines are numbers, so that a reader of another team can be held to them.
 #[derive(Clone, Copy, Debug, PartialEq, Eq)]
 pub struct Answer {
     pub number: u8,

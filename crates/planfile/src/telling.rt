@@ -3,12 +3,13 @@ ghost use Rattle.std.specs.Prelude.{◌≡◌, ◌≤◌, ◌∷◌, length};
 ghost use Rattle.std.specs.List.{flat_map};
 ghost use Rattle.plan.specs.Views.{task_of, tasks};
 ghost use Rattle.areas.specs.Pens.{Puts};
+ghost use Rattle.file_parts.specs.Kinds.{section_kind_letter};
 ghost use Rattle.file_reader.specs.Bytes.{two};
 ghost use Rattle.file_reader.specs.Grammar.{row_bytes};
 ghost use Rattle.file_reader.specs.Meaning.{written};
 
 use areas::Pen;
-use file_parts::Settings;
+use file_parts::{SectionKind, Settings};
 use plan::{Row, Table};
 
 fn put_row(pen: &mut Pen, row: &Row)
@@ -41,11 +42,11 @@ fn rows_len(table: &Table) -> u16
 }
 
 // The letter of a section and the length of its body.
-fn put_head(pen: &mut Pen, letter: u8, len: u16)
-    ensures { Puts pen.old (letter ∷ two len) pen.new }
+fn put_head(pen: &mut Pen, kind: SectionKind, len: u16)
+    ensures { Puts pen.old (section_kind_letter kind ∷ two len) pen.new }
 {
     let [high, low] = len.to_be_bytes();
-    pen.put(&[letter, high, low]);
+    pen.put(&[kind.letter(), high, low]);
 }
 
 // Header, table and, where there are some, calls.
@@ -63,10 +64,10 @@ pub(crate) fn put_file(pen: &mut Pen, table: &Table, settings: Settings, calls: 
         settings.delta,
         settings.letter,
     ]);
-    put_head(pen, b'T', rows_len(table));
+    put_head(pen, SectionKind::Table, rows_len(table));
     put_rows(pen, table);
     if !calls.is_empty() {
-        put_head(pen, b'C', calls.len() as u16);
+        put_head(pen, SectionKind::Calls, calls.len() as u16);
         pen.put(calls);
     }
 }
