@@ -108,6 +108,7 @@ impl Cursor {
             None => {}
         }
         let name_at = at + read.name_at;
+        // Tried with `map_err` and `?`: the proof did not close, since the closure is known by its clauses alone where it fails.
         match table.add(
             read.budget,
             read.period,
