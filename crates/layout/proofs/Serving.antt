@@ -1,8 +1,8 @@
 -- The answers of the layouts by slots, from the places that shares give.
-use Rattle.std.proofs.Common.{◌≡◌, ℕ, zero, suc, ◌+◌, ◌-◌, ◌/◌, ◌<◌, ◌≤◌, Bool, true, false, cond, ltb, leb, List, length, Some, None, sym, refl, ap, ◌∙◌, ⊎_elim, zero-add, arith}
+use Rattle.std.proofs.Common.{◌≡◌, ℕ, zero, suc, ◌+◌, ◌-◌, ◌/◌, ◌<◌, ◌≤◌, Bool, true, false, cond, ltb, leb, List, length, get_or, Some, None, Option, sym, refl, ap, ◌∙◌, ⊎_elim, zero-add, arith}
 use Rattle.std.specs.Bool.{then_some}
 use Rattle.std.specs.Option.{option_map}
-use Rattle.std.proofs.lemmas.Bool.{cases_order, cases_lt, lt-ltb, le-ltb, le-leb, lt-leb, cond-true, cond-false}
+use Rattle.std.proofs.lemmas.Bool.{cases_order, cases_lt, le-ltb, le-leb, lt-leb, cond-true, cond-false}
 use Rattle.std.proofs.lemmas.List.{get_or_past}
 use mathlib.Core.Path.{fun_ext}
 use Rattle.layout_laws.specs.Offset.{offset}
@@ -13,7 +13,11 @@ use Rattle.layout_laws.specs.Semi.{free, shared, highest, own_serves, shared_ser
 use Rattle.layout_laws.proofs.FlatLaws.{Answered, answered, none_serves as flat_none}
 use Rattle.layout_laws.proofs.SemiLaws.{none_serves as semi_none}
 use Rattle.layout_laws.proofs.Supply.{timed}
-use Rattle.layout.specs.Shared.{position}
+use Rattle.layout.specs.declared.flat.Flat.{Flat}
+use Rattle.layout.specs.declared.semi.Semi.{Semi}
+use Rattle.layout.specs.Lawful.{count_reserved}
+use Rattle.layout.specs.Shared.{reserved, starts, position}
+use Rattle.layout.specs.Views.{flat_view, semi_view}
 
 -- a place that is answered where two tests pass, and what is made of it
 placed : (b c : Bool) (x : ℕ) (f : ℕ → ℕ) → option_map f (cond b (then_some c x) None) ≡ cond b (cond c (Some (f x)) None) None
@@ -35,7 +39,7 @@ past : (S a t p : ℕ) (rs : List ℕ) (f : ℕ → ℕ) → length rs ≤ p →
 past S a t p rs f l =
     placed_in_time S a (share rs p) t f ∙ ap (in_time t) (cond-false (ltb (offset S a t) (share rs p)) (Some (f (a + offset S a t))) None (le-ltb (offset S a t) (share rs p) (omega (arith, get_or_past rs p 0 l))))
 
-pub flat_placed : (S : ℕ) (rs : List ℕ) (t p a : ℕ) → (p < length rs → a ≡ start rs p) → option_map (λ x. x / S) (in_time t (position S a (share rs p) t)) ≡ in_time t (flat_serves S rs t p)
+flat_placed : (S : ℕ) (rs : List ℕ) (t p a : ℕ) → (p < length rs → a ≡ start rs p) → option_map (λ x. x / S) (in_time t (position S a (share rs p) t)) ≡ in_time t (flat_serves S rs t p)
 flat_placed S rs t p a e = ⊎_elim here (λ l. past S a t p rs (λ x. x / S) l ∙ sym (ap (in_time t) (flat_none S rs t p l))) (cases_lt p (length rs))
   where
     here : p < length rs → option_map (λ x. x / S) (in_time t (position S a (share rs p) t)) ≡ in_time t (flat_serves S rs t p)
@@ -45,7 +49,7 @@ flat_placed S rs t p a e = ⊎_elim here (λ l. past S a t p rs (λ x. x / S) l 
 abbrev pub server : (S m : ℕ) (rs : List ℕ) (p x : ℕ) → ℕ
 server S m rs p x = cond (ltb p m) p (highest (free S rs) x m)
 
-pub semi_placed : (S m : ℕ) (rs : List ℕ) (t p a : ℕ) → (p < length rs → a ≡ semi_start S m rs p) → option_map (server S m rs p) (in_time t (position S a (share rs p) t)) ≡ in_time t (semi_serves S m rs t p)
+semi_placed : (S m : ℕ) (rs : List ℕ) (t p a : ℕ) → (p < length rs → a ≡ semi_start S m rs p) → option_map (server S m rs p) (in_time t (position S a (share rs p) t)) ≡ in_time t (semi_serves S m rs t p)
 semi_placed S m rs t p a e = ⊎_elim here (λ l. past S a t p rs (server S m rs p) l ∙ sym (ap (in_time t) (semi_none S m rs t p l))) (cases_lt p (length rs))
   where
     go : (b : Bool) → in_time t (cond (ltb (offset S (cond b (free S rs (suc p)) (shared m rs p)) t) (share rs p)) (Some (cond b p (highest (free S rs) (cond b (free S rs (suc p)) (shared m rs p) + offset S (cond b (free S rs (suc p)) (shared m rs p)) t) m))) None) ≡ in_time t (cond b (own_serves S rs t p) (shared_serves S m rs t p))
@@ -57,12 +61,6 @@ semi_placed S m rs t p a e = ⊎_elim here (λ l. past S a t p rs (server S m rs
         ap (λ b. option_map (server S m rs p) (in_time t (position S b (share rs p) t))) (e l)
         ∙ placed_in_time S (semi_start S m rs p) (share rs p) t (server S m rs p)
         ∙ go (ltb p m)
-
-pub server_own : (S m : ℕ) (rs : List ℕ) (p x : ℕ) → p < m → server S m rs p x ≡ p
-server_own S m rs p x l = cond-true (ltb p m) p (highest (free S rs) x m) (lt-ltb p m l)
-
-pub server_shared : (S m : ℕ) (rs : List ℕ) (p x : ℕ) → m ≤ p → server S m rs p x ≡ highest (free S rs) x m
-server_shared S m rs p x l = cond-false (ltb p m) p (highest (free S rs) x m) (le-ltb p m l)
 
 -- the highest of the first n at which f is at most x
 pub highest_is : (f : ℕ → ℕ) (x n q : ℕ) → q < n → f q ≤ x → ((k : ℕ) → q < k → k < n → x < f k) → highest f x n ≡ q
@@ -79,12 +77,6 @@ highest_none f x zero above = refl
 highest_none f x (suc n) above =
     cond-false (leb (f n) x) n (highest f x n) (lt-leb (f n) x (above n (omega arith))) ∙ highest_none f x n (λ k h. above k (omega arith))
 
-pub highest_same : (f g : ℕ → ℕ) (x n : ℕ) → ((k : ℕ) → k < n → f k ≡ g k) → highest f x n ≡ highest g x n
-unfolding highest
-highest_same f g x zero e = refl
-highest_same f g x (suc n) e =
-    ap (λ y. cond (leb y x) n (highest f x n)) (e n (omega arith)) ∙ ap (λ y. cond (leb (g n) x) n y) (highest_same f g x n (λ k h. e k (omega arith)))
-
 some_cond : (b : Bool) (x : ℕ) → then_some b x ≡ cond b (Some x) None
 some_cond true x = refl
 some_cond false x = refl
@@ -100,3 +92,14 @@ answered_at S a t p x rs e =
 pub highest_before : (f : ℕ → ℕ) (x n i : ℕ) → i ≤ n → ((k : ℕ) → k < i → f k ≤ x) → ((k : ℕ) → i ≤ k → k < n → x < f k) → highest f x n ≡ i - 1
 highest_before f x n i l below above =
     ⊎_elim (λ some. highest_is f x n (i - 1) (omega arith) (below (i - 1) (omega arith)) (λ k m h. above k (omega arith) h)) (λ none. highest_none f x n (λ k h. above k (omega arith) h) ∙ omega arith) (cases_lt 0 i)
+
+-- what is answered of the place that a bin's shares give
+pub flat_answered : (x : Flat) (t p : ℕ) (o : Option ℕ) → o ≡ in_time t (position x.shares.slot (get_or (starts x.shares) p 0) (share (reserved x.shares) p) t) → option_map (λ y. y / x.shares.slot) o ≡ (flat_view x).serves t p
+flat_answered x t p o e =
+    let s = x.shares in
+    ap (option_map (λ y. y / s.slot)) e ∙ flat_placed s.slot (reserved s) t p (get_or (starts s) p 0) (λ l. x.started p (omega (arith, l, count_reserved s)))
+
+pub semi_answered : (x : Semi) (t p : ℕ) (o : Option ℕ) → o ≡ in_time t (position x.shares.slot (get_or (starts x.shares) p 0) (share (reserved x.shares) p) t) → option_map (server x.shares.slot x.shares.processors (reserved x.shares) p) o ≡ (semi_view x).serves t p
+semi_answered x t p o e =
+    let s = x.shares in
+    ap (option_map (server s.slot s.processors (reserved s) p)) e ∙ semi_placed s.slot s.processors (reserved s) t p (get_or (starts s) p 0) (λ l. x.started p (omega (arith, l, count_reserved s)))
