@@ -1,7 +1,8 @@
 -- Shares are laid, bin by bin.
-use Rattle.std.proofs.Common.{◌≡◌, ℕ, suc, ◌+◌, ◌-◌, ◌*◌, ◌<◌, ◌≤◌, ltb, List, [], ◌∷◌, ◌++◌, map, length, get_or, take, set, sym, refl, ap, ◌∙◌, subst, ⊎_elim, arith}
+use Rattle.std.proofs.Common.{◌≡◌, ℕ, suc, ◌+◌, ◌-◌, ◌*◌, ◌<◌, ◌≤◌, List, [], ◌∷◌, ◌++◌, map, length, get_or, take, set, sym, refl, ap, ◌∙◌, subst, ⊎_elim, arith}
 use Rattle.std.proofs.lemmas.List.{length-map, length-append, map-append, take_more, length-take-le, get_or_past, get_or_push, get_or_append_left, get_or-map, get_or-set_same, get_or-set_other}
-use Rattle.std.proofs.lemmas.Bool.{cases_eq, cases_lt, lt-ltb, le-ltb, cond-true, cond-false}
+use Rattle.std.proofs.lemmas.Bool.Decides.{nat_tests}
+use Rattle.std.proofs.lemmas.Bool.{cases_eq, cases_lt}
 use Rattle.plan.specs.declared.bin.Bin.{Bin}
 use Rattle.plan.specs.declared.plan.Plan.{Plan}
 use Rattle.plan.specs.Bins.{load_of as bin_load, reserve_in}
@@ -105,7 +106,7 @@ module _ {p : Planned} {own : ℕ} {xs : List Share} {left taken i : ℕ} {b : B
       record {
         loads = loads_more;
         reserves = reserves_more;
-        starts = starts_more (start ∙ sym more ∙ sym (cond-true (ltb i own) (free p.slot p.reserves (suc i)) (shared own p.reserves i) (lt-ltb i own low)));
+        starts = starts_more (start ∙ sym more ∙ grind (arith, nat_tests));
         left_is = λ _. sym more ∙ ap (free p.slot p.reserves) (sym one);
         taken_is = l.taken_is ∙ ap (before (λ k. share p.reserves (own + k))) (sym none);
         near = near_more (omega (arith, l.bounded.0));
@@ -120,7 +121,7 @@ module _ {p : Planned} {own : ℕ} {xs : List Share} {left taken i : ℕ} {b : B
       record {
         loads = loads_more;
         reserves = reserves_more;
-        starts = starts_more (start ∙ l.taken_is ∙ sym (cond-false (ltb i own) (free p.slot p.reserves (suc i)) (shared own p.reserves i) (le-ltb i own high)));
+        starts = starts_more (start ∙ l.taken_is ∙ grind (arith, nat_tests));
         left_is = λ h. absurd (omega arith);
         taken_is = omega (arith, l.taken_is, ap (before (λ k. share p.reserves (own + k))) more, before_more (λ k. share p.reserves (own + k)) (i - own), ap (share p.reserves) here);
         near = near_more (omega (arith, l.bounded.1));

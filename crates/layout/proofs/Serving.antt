@@ -1,17 +1,17 @@
 -- The answers of the layouts by slots, from the places that shares give.
-use Rattle.std.proofs.Common.{◌≡◌, ℕ, zero, suc, ◌+◌, ◌-◌, ◌/◌, ◌<◌, ◌≤◌, Bool, true, false, cond, ltb, leb, List, length, get_or, Some, None, Option, sym, refl, ap, ◌∙◌, ⊎_elim, zero-add, arith}
+use Rattle.std.proofs.Common.{◌≡◌, ℕ, zero, suc, ◌+◌, ◌-◌, ◌/◌, ◌<◌, ◌≤◌, Bool, true, false, cond, ltb, List, length, get_or, Some, None, Option, sym, refl, ap, ◌∙◌, ⊎_elim, arith}
 use Rattle.std.specs.Bool.{then_some}
 use Rattle.std.specs.Option.{option_map}
-use Rattle.std.proofs.lemmas.Bool.{cases_order, cases_lt, le-ltb, le-leb, lt-leb, cond-true, cond-false}
+use Rattle.std.proofs.lemmas.Bool.Decides.{nat_tests}
+use Rattle.std.proofs.lemmas.Bool.{cases_order, cases_lt}
 use Rattle.std.proofs.lemmas.List.{get_or_past}
-use mathlib.Core.Path.{fun_ext}
 use Rattle.layout_laws.specs.Offset.{offset}
 use Rattle.layout_laws.specs.Meaning.{horizon, in_time}
-use Rattle.layout_laws.specs.Shares.{share, before}
+use Rattle.layout_laws.specs.Shares.{share}
 use Rattle.layout_laws.specs.Flat.{start, flat_serves}
 use Rattle.layout_laws.specs.Semi.{free, shared, highest, own_serves, shared_serves, semi_start, semi_serves}
 use Rattle.layout_laws.proofs.FlatLaws.{Answered, answered, none_serves as flat_none}
-use Rattle.layout_laws.proofs.SemiLaws.{none_serves as semi_none}
+use Rattle.layout_laws.proofs.SemiLaws.{highest_here, highest_lower, none_serves as semi_none}
 use Rattle.layout_laws.proofs.Supply.{timed}
 use Rattle.layout.specs.declared.flat.Flat.{Flat}
 use Rattle.layout.specs.declared.semi.Semi.{Semi}
@@ -28,16 +28,10 @@ placed false c x f = refl
 placed_in_time : (S a r t : ℕ) (f : ℕ → ℕ) → option_map f (in_time t (position S a r t)) ≡ in_time t (cond (ltb (offset S a t) r) (Some (f (a + offset S a t))) None)
 placed_in_time S a r t f = placed (ltb t horizon) (ltb (offset S a t) r) (a + offset S a t) f
 
--- with no processor to themselves, all bins share
-pub start_shared : (S : ℕ) (rs : List ℕ) (p : ℕ) → semi_start S 0 rs p ≡ start rs p
-start_shared S rs p =
-    let e : p - 0 ≡ p = omega arith in
-    cond-false (ltb p 0) (free S rs (suc p)) (shared 0 rs p) (le-ltb p 0 (omega arith)) ∙ ap (λ (f : ℕ → ℕ). before f (p - 0)) (fun_ext (λ i. ap (share rs) (zero-add i))) ∙ ap (before (share rs)) e
-
 -- no reserve, no answer
 past : (S a t p : ℕ) (rs : List ℕ) (f : ℕ → ℕ) → length rs ≤ p → option_map f (in_time t (position S a (share rs p) t)) ≡ in_time t None
 past S a t p rs f l =
-    placed_in_time S a (share rs p) t f ∙ ap (in_time t) (cond-false (ltb (offset S a t) (share rs p)) (Some (f (a + offset S a t))) None (le-ltb (offset S a t) (share rs p) (omega (arith, get_or_past rs p 0 l))))
+    let none : share rs p ≡ 0 = get_or_past rs p 0 l in placed_in_time S a (share rs p) t f ∙ grind (arith, nat_tests)
 
 flat_placed : (S : ℕ) (rs : List ℕ) (t p a : ℕ) → (p < length rs → a ≡ start rs p) → option_map (λ x. x / S) (in_time t (position S a (share rs p) t)) ≡ in_time t (flat_serves S rs t p)
 flat_placed S rs t p a e = ⊎_elim here (λ l. past S a t p rs (λ x. x / S) l ∙ sym (ap (in_time t) (flat_none S rs t p l))) (cases_lt p (length rs))
@@ -67,15 +61,15 @@ pub highest_is : (f : ℕ → ℕ) (x n q : ℕ) → q < n → f q ≤ x → ((k
 unfolding highest
 highest_is f x zero q l here above = absurd (omega arith)
 highest_is f x (suc n) q l here above =
-    ⊎_elim (λ e. cond-true (leb (f n) x) n (highest f x n) (le-leb (f n) x (omega (arith, ap f e))) ∙ sym e)
-    (λ o. ⊎_elim (λ less. cond-false (leb (f n) x) n (highest f x n) (lt-leb (f n) x (above n less (omega arith))) ∙ highest_is f x n q less here (λ k m h. above k m (omega arith))) (λ more. absurd (omega arith)) o)
+    ⊎_elim (λ e. highest_here f x n (omega (arith, ap f e)) ∙ sym e)
+    (λ o. ⊎_elim (λ less. highest_lower f x n (above n less (omega arith)) ∙ highest_is f x n q less here (λ k m h. above k m (omega arith))) (λ more. absurd (omega arith)) o)
     (cases_order q n)
 
 pub highest_none : (f : ℕ → ℕ) (x n : ℕ) → ((k : ℕ) → k < n → x < f k) → highest f x n ≡ 0
 unfolding highest
 highest_none f x zero above = refl
 highest_none f x (suc n) above =
-    cond-false (leb (f n) x) n (highest f x n) (lt-leb (f n) x (above n (omega arith))) ∙ highest_none f x n (λ k h. above k (omega arith))
+    highest_lower f x n (above n (omega arith)) ∙ highest_none f x n (λ k h. above k (omega arith))
 
 some_cond : (b : Bool) (x : ℕ) → then_some b x ≡ cond b (Some x) None
 some_cond true x = refl
