@@ -1,18 +1,12 @@
 -- Shares keep what the layouts' laws rest on.
-use Rattle.std.specs.Prelude.{◌≡◌, ℕ, ◌<◌, List, length, map}
+use Rattle.std.specs.Prelude.{◌≡◌, ◌<◌, length}
 use Rattle.std.proofs.Common.{arith}
 use Rattle.std.proofs.lemmas.List.{length-map}
 use Rattle.arrayvec.specs.ArrayVec.{array_vec_len}
 use Rattle.layout_laws.specs.Shares.{Carry}
 use Rattle.layout.specs.declared.shares.Shares.{Shares}
 use Rattle.layout.specs.Parts.{load_of, reserve_of}
-
--- the loads and reserves of the bins
-abbrev pub weights : Shares → List ℕ
-weights s = map load_of s.bins.items
-
-abbrev pub reserved : Shares → List ℕ
-reserved s = map reserve_of s.bins.items
+use Rattle.layout.specs.Shared.{weights, reserved}
 
 pub count_weights : (s : Shares) → length (weights s) ≡ array_vec_len s.bins
 count_weights s = length-map s.bins.items load_of

@@ -40,4 +40,4 @@ Filled Has layout_of p result new = MatchResult result (λ u. Has p × (new ≡ 
 
 -- what making a layout of a plan gives, where x means m of a layout that was made
 abbrev pub Made : {X : Type 0} → (Planned → Type 0) → (Planned → Meaning) → Planned → (X → Meaning) → Result X NotMade → Type 0
-Made Has layout_of p m result = MatchResult result (λ x. Has p × (m x ≡ layout_of p)) (λ e. ¬ Has p)
+Made Has layout_of p m result = MatchResult result (λ x. Has p × (m x ≡ layout_of p) × Fits p (m x)) (λ e. ¬ Has p)

@@ -1,8 +1,8 @@
 // The semi-partitioned layout: the first bins have the end of a processor's slot each, and the others share what is left.
-ghost use Rattle.std.specs.Prelude.{◌≡◌, ℕ, ◌<◌, ◌≤◌, length, map, slice_index};
+ghost use Rattle.std.specs.Prelude.{◌≡◌, ℕ, ◌<◌, ◌≤◌, length, slice_index};
 ghost use Rattle.arrayvec.specs.ArrayVec.{array_vec_len};
 ghost use Rattle.layout_laws.specs.Semi.{free, semi_start};
-ghost use Rattle.layout.specs.Parts.{reserve_of, start_of};
+ghost use Rattle.layout.specs.Shared.{reserved, starts};
 
 use crate::shares::Shares;
 
@@ -15,6 +15,6 @@ pub struct Semi {
     // What the processors below each have left.
     frees: [u32; 17],
     ghost wide: { length frees ≡ 17 },
-    ghost freed: { (q : ℕ) → q ≤ 16 → slice_index frees q ≡ free shares.slot (map reserve_of shares.bins.items) q },
-    ghost started: { (p : ℕ) → p < array_vec_len shares.bins → slice_index (map start_of shares.bins.items) p ≡ semi_start shares.slot shares.processors (map reserve_of shares.bins.items) p },
+    ghost freed: { (q : ℕ) → q ≤ 16 → slice_index frees q ≡ free shares.slot (reserved shares) q },
+    ghost started: { (p : ℕ) → p < array_vec_len shares.bins → slice_index (starts shares) p ≡ semi_start shares.slot shares.processors (reserved shares) p },
 }

@@ -1,12 +1,13 @@
 -- The two laws of the dedicated layout.
 use Rattle.std.proofs.Common.{◌≡◌, ℕ, zero, suc, ◌+◌, ◌*◌, ◌<◌, ◌≤◌, cond, ltb, List, length, get_or, Some, None, sym, refl, ap, ◌∙◌, ⊎_elim, mul-le-mul_right, arith}
 use Rattle.std.proofs.lemmas.List.{get_or_past}
-use Rattle.std.proofs.lemmas.Bool.{cases_lt, lt-ltb, le-ltb, cond-true, cond-false}
+use Rattle.std.proofs.lemmas.Bool.{cases_lt}
+use Rattle.std.proofs.lemmas.Bool.Decides.{nat_tests}
 use Rattle.plan.specs.Method.{full}
 use Rattle.layout_laws.specs.Meaning.{horizon, one, supplied, Formed, Exclusive, Supplies}
 use Rattle.layout_laws.specs.Dedicated.{dedicated}
 use Rattle.layout_laws.proofs.FlatLaws.{Answered, answered}
-use Rattle.layout_laws.proofs.Supply.{timed, in_range, timed_formed, supply_none}
+use Rattle.layout_laws.proofs.Supply.{timed, timed_formed, supply_none}
 
 module _ (m T : ℕ) (ws : List ℕ) where
   -- the processor of a bin is its own number
@@ -24,7 +25,7 @@ module _ (m T : ℕ) (ws : List ℕ) where
   unfolding supplied
   all p h t zero far = refl
   all p h t (suc l) far =
-      let e : (dedicated m T ws).serves t p ≡ Some p = in_range t (cond (ltb p (length ws)) (Some p) None) (omega arith) ∙ cond-true (ltb p (length ws)) (Some p) None (lt-ltb p (length ws) h) in
+      let e : (dedicated m T ws).serves t p ≡ Some p = grind (arith, nat_tests) in
       omega (arith, ap one e, all p h (suc t) l (omega arith))
 
   pub dedicated_supply : ((p : ℕ) → get_or ws p 0 ≤ full) → Supplies (dedicated m T ws)
@@ -38,4 +39,4 @@ module _ (m T : ℕ) (ws : List ℕ) where
 
   pub dedicated_formed : 1 ≤ m → m ≤ 16 → length ws ≤ 64 → Formed (dedicated m T ws)
   dedicated_formed some most few =
-      timed_formed m T ws (λ t p. cond (ltb p (length ws)) (Some p) None) some most few (λ t p h. cond-false (ltb p (length ws)) (Some p) None (le-ltb p (length ws) h))
+      timed_formed m T ws (λ t p. cond (ltb p (length ws)) (Some p) None) some most few (λ t p h. grind (arith, nat_tests))

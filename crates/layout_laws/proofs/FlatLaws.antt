@@ -1,8 +1,9 @@
 -- The two laws of the flat layout.
-use Rattle.std.proofs.Common.{◌≡◌, ℕ, suc, ◌+◌, ◌*◌, ◌/◌, ◌<◌, ◌≤◌, Bool, true, false, cond, ltb, List, length, Some, None, refl, ap, subst, ⊎_elim, arith}
+use Rattle.std.proofs.Common.{◌≡◌, ℕ, suc, ◌+◌, ◌*◌, ◌/◌, ◌<◌, ◌≤◌, cond, ltb, List, length, Some, None, refl, ap, subst, ⊎_elim, arith}
 use native.Mathlib.Nat.{div-add-mod}
 use Rattle.std.proofs.lemmas.Nat.{div_below}
-use Rattle.std.proofs.lemmas.Bool.{cases_order, cases_lt, ltb-true, le-ltb, cond-false}
+use Rattle.std.proofs.lemmas.Bool.{cases_order, cases_lt}
+use Rattle.std.proofs.lemmas.Bool.Decides.{nat_tests}
 use Rattle.std.proofs.lemmas.List.{get_or_past}
 use Rattle.plan.specs.Method.{full}
 use Rattle.layout_laws.specs.Offset.{offset}
@@ -19,11 +20,7 @@ pub record Answered (k r x q : ℕ) : Type 0 where
   pub by : x ≡ q
 
 pub answered : (k r x q : ℕ) → cond (ltb k r) (Some x) None ≡ Some q → Answered k r x q
-answered k r x q e = go (ltb k r) refl e
-  where
-    go : (b : Bool) → ltb k r ≡ b → cond b (Some x) None ≡ Some q → Answered k r x q
-    go true h e = record { early = ltb-true k r h; by = cc }
-    go false h e = cc
+answered k r x q e = ⊎_elim (λ early. record { early = early; by = grind (arith, nat_tests) }) (λ late. absurd (grind (arith, nat_tests))) (cases_lt k r)
 
 module _ (S m : ℕ) (rs : List ℕ) (fit : Fit S m rs) (t : ℕ) where
   within : (p q : ℕ) → flat_serves S rs t p ≡ Some q → q < m
@@ -80,8 +77,7 @@ processor_below S m rs p a k fit e l = div_below (a + k) S m fit.some (slot_belo
 
 -- a bin that has no reserve is not served
 pub none_serves : (S : ℕ) (rs : List ℕ) (t p : ℕ) → length rs ≤ p → flat_serves S rs t p ≡ None
-none_serves S rs t p h =
-    (cond-false (ltb (offset S (start rs p) t) (share rs p)) _ None (le-ltb (offset S (start rs p) t) (share rs p) (omega (arith, get_or_past rs p 0 h))))
+none_serves S rs t p h = let none : share rs p ≡ 0 = get_or_past rs p 0 h in grind (arith, nat_tests)
 
 pub flat_formed : (S m T : ℕ) (rs ws : List ℕ) → 1 ≤ m → m ≤ 16 → length rs ≡ length ws → length ws ≤ 64 → Formed (flat S m T rs ws)
 flat_formed S m T rs ws some most each few =

@@ -2,15 +2,15 @@
 use Rattle.std.proofs.Common.{◌≡◌, ℕ, zero, suc, ◌+◌, ◌-◌, ◌*◌, ◌/◌, ◌%◌, ◌<◌, ◌≤◌, min, ltb, ◌⊎◌, sym, refl, ap, ◌∙◌, subst, inl, inr, ⊎_elim, mul-le-mul_right, mod-lt, mul-le-mul_left, arith}
 use native.Mathlib.Nat.{div-add-mod, add-mod-mod, le_of_mul-le-mul_left}
 use Rattle.std.proofs.lemmas.Nat.{div-mul-add, mod-mul-add, le-div}
-use Rattle.std.proofs.lemmas.Bool.{cases_lt, lt-ltb, le-ltb, cond-true, cond-false}
+use Rattle.std.proofs.lemmas.Bool.{cases_lt}
+use Rattle.std.proofs.lemmas.Bool.Decides.{nat_tests}
 use Rattle.layout_laws.specs.Offset.{offset}
 use Rattle.layout_laws.specs.Periodic.{ones, served, count, serving}
 use Rattle.layout_laws.proofs.Offset.{offset_is, offset_only, shift_rest}
 
 -- what a test counts for
 pub ones_ltb : (a b : ℕ) → ((a < b) × (ones (ltb a b) ≡ 1)) ⊎ ((b ≤ a) × (ones (ltb a b) ≡ 0))
-ones_ltb a b =
-    ⊎_elim (λ h. inl (h, cond-true (ltb a b) 1 0 (lt-ltb a b h))) (λ h. inr (h, cond-false (ltb a b) 1 0 (le-ltb a b h))) (cases_lt a b)
+ones_ltb a b = ⊎_elim (λ h. inl (h, grind (arith, nat_tests))) (λ h. inr (h, grind (arith, nat_tests))) (cases_lt a b)
 
 -- the served ticks among the first x of a cycle that begins with R served ones
 quota : ℕ → ℕ → ℕ → ℕ

@@ -1,10 +1,11 @@
 -- The two laws of the semi-partitioned layout.
-use Rattle.std.proofs.Common.{◌≡◌, ℕ, zero, suc, ◌+◌, ◌-◌, ◌*◌, ◌%◌, ◌<◌, ◌≤◌, Bool, true, false, cond, ltb, leb, ◌⊎◌, List, length, Some, None, sym, refl, ap, ◌∙◌, subst, inl, inr, ⊎_elim, arith}
+use Rattle.std.proofs.Common.{◌≡◌, ℕ, zero, suc, ◌+◌, ◌-◌, ◌*◌, ◌%◌, ◌<◌, ◌≤◌, Bool, true, false, cond, ltb, ◌⊎◌, List, length, Some, None, sym, refl, ap, ◌∙◌, subst, inl, inr, ⊎_elim, arith}
 use Rattle.std.proofs.lemmas.List.{get_or_past}
-use Rattle.std.proofs.lemmas.Bool.{cases_order, cases_lt, ltb-true, ltb-false, leb-true, leb-false, lt-ltb, le-ltb, cond-true, cond-false}
+use Rattle.std.proofs.lemmas.Bool.Decides.{nat_tests}
+use Rattle.std.proofs.lemmas.Bool.{cases_order, cases_lt, ltb-true, ltb-false}
 use Rattle.layout_laws.specs.Offset.{offset}
 use Rattle.plan.specs.Method.{full}
-use Rattle.layout_laws.specs.Meaning.{in_time, supplied, Formed, Exclusive, Supplies}
+use Rattle.layout_laws.specs.Meaning.{supplied, Formed, Exclusive, Supplies}
 use Rattle.layout_laws.specs.Shares.{share, before, Fit, Carry}
 use Rattle.layout_laws.specs.Semi.{room, free, shared, highest, own_serves, shared_serves, semi_serves, semi, Holds}
 use Rattle.layout_laws.proofs.Offset.{offset_is, same_near}
@@ -18,16 +19,20 @@ record Found (f : ℕ → ℕ) (x n q : ℕ) : Type 0 where
   from : f q ≤ x
   to : x < f (suc q)
 
+pub highest_here : (f : ℕ → ℕ) (x n : ℕ) → f n ≤ x → highest f x (suc n) ≡ n
+unfolding highest
+highest_here f x n h = grind (arith, nat_tests)
+
+pub highest_lower : (f : ℕ → ℕ) (x n : ℕ) → x < f n → highest f x (suc n) ≡ highest f x n
+unfolding highest
+highest_lower f x n h = grind (arith, nat_tests)
+
 found : (f : ℕ → ℕ) (x n : ℕ) → f 0 ≤ x → x < f n → Found f x n (highest f x n)
 unfolding highest
 found f x zero low high = absurd (omega arith)
-found f x (suc n) low high = go (leb (f n) x) refl (found f x n low)
-  where
-    go : (b : Bool) → leb (f n) x ≡ b → (x < f n → Found f x n (highest f x n)) → Found f x (suc n) (cond b n (highest f x n))
-    go true h ih = record { known = omega arith; from = leb-true (f n) x h; to = high }
-    go false h ih =
-        let r = ih (leb-false (f n) x h) in
-        record { known = omega (arith, r.known); from = r.from; to = r.to }
+found f x (suc n) low high =
+    ⊎_elim (λ h. let r = found f x n low h in subst (Found f x (suc n)) (sym (highest_lower f x n h)) (record { known = omega (arith, r.known); from = r.from; to = r.to }))
+    (λ h. subst (Found f x (suc n)) (sym (highest_here f x n h)) (record { known = omega arith; from = h; to = high })) (cases_lt x (f n))
 
 module _ (S m : ℕ) (rs : List ℕ) (fit : Fit S m rs) where
   -- what is left over and what is reserved make up the processors
@@ -132,37 +137,17 @@ semi_supply S m δ T rs ws fit carry p t l long far = ⊎_elim some none (cases_
       where
         own : p < m → (semi S m T rs ws).load p * l ≤ supplied (semi S m T rs ws) p t l * full
         own h =
-            supply_of (semi S m T rs ws) S δ T rs ws p (free S rs (suc p)) (λ u. p) fit (carry k) refl (λ u. ap (in_time u) (cond-true (ltb p m) (own_serves S rs u p) (shared_serves S m rs u p) (lt-ltb p m h))) t l long far
+            supply_of (semi S m T rs ws) S δ T rs ws p (free S rs (suc p)) (λ u. p) fit (carry k) refl (λ u. grind (arith, nat_tests)) t l long far
 
         lent : m ≤ p → (semi S m T rs ws).load p * l ≤ supplied (semi S m T rs ws) p t l * full
         lent h =
-            supply_of (semi S m T rs ws) S δ T rs ws p (shared m rs p) (λ u. highest (free S rs) (shared m rs p + offset S (shared m rs p) u) m) fit (carry k) refl (λ u. ap (in_time u) (cond-false (ltb p m) (own_serves S rs u p) (shared_serves S m rs u p) (le-ltb p m h))) t l long far
+            supply_of (semi S m T rs ws) S δ T rs ws p (shared m rs p) (λ u. highest (free S rs) (shared m rs p + offset S (shared m rs p) u) m) fit (carry k) refl (λ u. grind (arith, nat_tests)) t l long far
 
     none : length ws ≤ 0 → (semi S m T rs ws).load p * l ≤ supplied (semi S m T rs ws) p t l * full
     none h = supply_none (semi S m T rs ws) p t l (get_or_past ws p 0 (omega arith))
 
--- what code that computes the processor needs
-pub shared_below : (S m : ℕ) (rs : List ℕ) (p a k : ℕ) → Fit S m rs → m ≤ p → a ≡ shared m rs p → k < share rs p → a + k < m * S
-shared_below S m rs p a k fit h e l = omega (arith, shared_fits S m rs fit p h, free_total S m rs fit m)
-
 pub none_serves : (S m : ℕ) (rs : List ℕ) (t p : ℕ) → length rs ≤ p → semi_serves S m rs t p ≡ None
-none_serves S m rs t p h = go (ltb p m)
-  where
-    late : (k : ℕ) → ltb k (share rs p) ≡ false
-    late k = le-ltb k (share rs p) (omega (arith, get_or_past rs p 0 h))
-
-    go : (b : Bool) → cond b (own_serves S rs t p) (shared_serves S m rs t p) ≡ None
-    go true = cond-false (ltb (offset S (free S rs (suc p)) t) (share rs p)) (Some p) None (late (offset S (free S rs (suc p)) t))
-    go false = cond-false (ltb (offset S (shared m rs p) t) (share rs p)) _ None (late (offset S (shared m rs p) t))
-
-pub lent_serves : (S m : ℕ) (rs : List ℕ) (t p a k q : ℕ) → m ≤ p → a ≡ shared m rs p → k ≡ offset S a t → k < share rs p → q ≡ highest (free S rs) (a + k) m → Some q ≡ semi_serves S m rs t p
-lent_serves S m rs t p a k q high e o l f =
-    let o' : k ≡ offset S (shared m rs p) t = o ∙ ap (λ x. offset S x t) e in
-    let x : a + k ≡ shared m rs p + offset S (shared m rs p) t = omega arith in
-    let y : q ≡ highest (free S rs) (shared m rs p + offset S (shared m rs p) t) m = f ∙ ap (λ z. highest (free S rs) z m) x in
-    sym (cond-false (ltb p m) (own_serves S rs t p) (shared_serves S m rs t p) (le-ltb p m high)
-    ∙ cond-true (ltb (offset S (shared m rs p) t) (share rs p)) (Some (highest (free S rs) (shared m rs p + offset S (shared m rs p) t) m)) None (lt-ltb (offset S (shared m rs p) t) (share rs p) (omega arith))
-    ∙ ap Some (sym y))
+none_serves S m rs t p h = let none : share rs p ≡ 0 = get_or_past rs p 0 h in grind (arith, nat_tests)
 
 pub semi_formed : (S m T : ℕ) (rs ws : List ℕ) → 1 ≤ m → m ≤ 16 → length rs ≡ length ws → length ws ≤ 64 → Formed (semi S m T rs ws)
 semi_formed S m T rs ws some most each few =

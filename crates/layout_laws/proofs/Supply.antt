@@ -1,7 +1,7 @@
 -- Answers within the range of ticks, and the supply law of a bin that is served periodically.
 use Rattle.std.proofs.Common.{◌≡◌, ℕ, zero, suc, ◌+◌, ◌*◌, ◌<◌, ◌≤◌, Bool, true, false, cond, ltb, List, length, get_or, Some, None, Option, refl, ap, ◌∙◌, arith}
 use Rattle.std.proofs.lemmas.List.{get_or_past}
-use Rattle.std.proofs.lemmas.Bool.{lt-ltb, le-ltb, cond-true, cond-false}
+use Rattle.std.proofs.lemmas.Bool.Decides.{nat_tests}
 use Rattle.plan.specs.Method.{full}
 use Rattle.layout_laws.specs.Offset.{offset}
 use Rattle.layout_laws.specs.Meaning.{horizon, Meaning, in_time, one, supplied, Formed}
@@ -11,17 +11,13 @@ use Rattle.layout_laws.proofs.Periodic.{supply}
 
 -- what is answered within the range is what was to be answered
 pub timed : (t : ℕ) (o : Option ℕ) (q : ℕ) → in_time t o ≡ Some q → o ≡ Some q
-timed t o q e = go (ltb t horizon) e
-  where
-    go : (b : Bool) → cond b o None ≡ Some q → o ≡ Some q
-    go true e = e
-    go false e = cc
+timed t o q e = grind (arith, nat_tests)
 
 pub in_range : (t : ℕ) (o : Option ℕ) → t < horizon → in_time t o ≡ o
-in_range t o l = cond-true (ltb t horizon) o None (lt-ltb t horizon l)
+in_range t o l = grind (arith, nat_tests)
 
 pub past_range : (t : ℕ) (o : Option ℕ) → horizon ≤ t → in_time t o ≡ None
-past_range t o l = cond-false (ltb t horizon) o None (le-ltb t horizon l)
+past_range t o l = grind (arith, nat_tests)
 
 -- the bounds of a layout of these loads that answers f within the range
 pub timed_formed : (m T : ℕ) (ws : List ℕ) (f : ℕ → ℕ → Option ℕ) → 1 ≤ m → m ≤ 16 → length ws ≤ 64 → ((t p : ℕ) → length ws ≤ p → f t p ≡ None) → Formed (record { processors = m; bins = length ws; shortest = T; load = λ p. get_or ws p 0; serves = λ t p. in_time t (f t p) })
@@ -30,13 +26,9 @@ timed_formed m T ws f some most few none = record {
   most = most;
   few = few;
   loads = λ p h. get_or_past ws p 0 h;
-  bins = λ t p h. ap (in_time t) (none t p h) ∙ nobody (ltb t horizon);
+  bins = λ t p h. let none : f t p ≡ None = none t p h in grind (arith, nat_tests);
   ticks = λ t p h. past_range t (f t p) h;
 }
-  where
-    nobody : (b : Bool) → cond {A = Option ℕ} b None None ≡ None
-    nobody true = refl
-    nobody false = refl
 
 -- a bin without load needs nothing
 pub supply_none : (m : Meaning) (p t l : ℕ) → m.load p ≡ 0 → m.load p * l ≤ supplied m p t l * full

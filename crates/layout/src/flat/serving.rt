@@ -1,7 +1,8 @@
 ghost use Rattle.layout.specs.Views.{flat_view};
 ghost use Rattle.std.proofs.Common.{sym, ◌∙◌, arith};
 ghost use Rattle.layout_laws.proofs.FlatLaws.{flat_formed, flat_exclusive, flat_supply};
-ghost use Rattle.layout.specs.Lawful.{weights, reserved, count_weights, count_reserved, carry};
+ghost use Rattle.layout.specs.Lawful.{count_weights, count_reserved, carry};
+ghost use Rattle.layout.specs.Shared.{weights, reserved};
 
 use super::Flat;
 use crate::layout::Layout;

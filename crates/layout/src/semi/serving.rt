@@ -1,9 +1,10 @@
-ghost use Rattle.std.specs.Prelude.{◌≡◌, slice_index};
+ghost use Rattle.std.specs.Prelude.{◌≡◌};
 ghost use Rattle.std.proofs.Common.{sym, ◌∙◌, arith};
-ghost use Rattle.layout_laws.specs.Semi.{highest};
+ghost use Rattle.layout_laws.specs.Semi.{free, highest};
 ghost use Rattle.layout.specs.Views.{semi_view};
 ghost use Rattle.layout_laws.proofs.SemiLaws.{semi_formed, semi_exclusive, semi_supply};
-ghost use Rattle.layout.specs.Lawful.{weights, reserved, count_weights, count_reserved, carry};
+ghost use Rattle.layout.specs.Lawful.{count_weights, count_reserved, carry};
+ghost use Rattle.layout.specs.Shared.{weights, reserved};
 
 use super::Semi;
 use crate::layout::Layout;
@@ -11,7 +12,7 @@ use crate::layout::Layout;
 impl Semi {
     // The processor that has this position of what is left.
     fn holder(&self, position: u32) -> u8
-        ensures { result ≡ highest (λ q. slice_index self.now.frees q) position self.now.shares.processors }
+        ensures { result ≡ highest (free self.now.shares.slot (reserved self.now.shares)) position self.now.shares.processors }
     {
         let frees = &self.frees[..self.shares.processors as usize];
         frees
@@ -48,11 +49,9 @@ impl Layout for Semi {
     }
 
     fn serve(&self, tick: u32, bin: u8) -> Option<u8> {
-        let position = self.shares.position(tick, bin)?;
-        if bin < self.shares.processors {
-            Some(bin)
-        } else {
-            Some(self.holder(position))
-        }
+        let own = bin < self.shares.processors;
+        self.shares
+            .position(tick, bin)
+            .map(|at| if own { bin } else { self.holder(at) })
     }
 }

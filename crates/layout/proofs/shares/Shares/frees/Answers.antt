@@ -2,7 +2,7 @@ use Rattle.std.proofs.Common.{◌≡◌, ◌+◌, ◌-◌, suc, sym, ap, rules, 
 use Rattle.std.proofs.lemmas.List.{length-set}
 use Rattle.layout_laws.specs.Semi.{room, free}
 use Rattle.layout_laws.proofs.Sums.{before_none, before_more}
-use Rattle.layout.specs.Lawful.{reserved}
+use Rattle.layout.specs.Shared.{reserved}
 use Rattle.layout.proofs.Laying.{set_more}
 use Rattle.layout.proofs.shares.Shares.frees.Goals as goal
 
