@@ -10,6 +10,7 @@ pub struct Given {
     letter: Option<u8>,
 }
 
+// No plainer by `LayoutKind`: the words of a text are its own, and the file has the letter.
 fn letter(layout: &str) -> Result<u8, Reason> {
     match layout {
         "flat" => Ok(b'F'),

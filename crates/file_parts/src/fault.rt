@@ -35,7 +35,7 @@ pub enum Fault {
 }
 
 impl Fault {
-    // The refusal's number, by which files, firmware and reports know it.
+    // The refusal's number, by which files, firmware and reports know it. By a `match`: no cast of a case with a field.
     pub fn number(self) -> u8
         ensures { result ≡ number_of self }
     {

@@ -70,7 +70,7 @@ impl Cursor {
     }
 }
 
-// What a table says of row `row`, as a fault of the file; the length of the row's name stands at `at`.
+// What a table says of row `row`, as a fault of the file; the length of the row's name stands at `at`. No `From`: both places are told too.
 fn told(refusal: RowRefusal, at: usize, row: usize) -> Fault
     requires { at + 256 < 2 ^ 64 }
     ensures { row_told at row (Some refusal) ≡ Some result }

@@ -51,6 +51,7 @@ fn comes_back(heap: Global, file: &[u8], calls: &[u8]) -> Result<bool, AllocErro
 pub(crate) fn writing(
     heap: Global,
     table: &Table,
+    // Any letter, as the writer takes it.
     letter: u8,
     room: usize,
     calls: &[u8],

@@ -12,7 +12,7 @@ mod serving;
 #[derive(Drop)]
 pub struct Semi {
     shares: Shares,
-    // What the processors below each have left.
+    // What the processors below each have left; all places are in use.
     frees: [u32; 17],
     ghost wide: { length frees ≡ 17 },
     ghost freed: { (q : ℕ) → q ≤ 16 → slice_index frees q ≡ free shares.slot (reserved shares) q },

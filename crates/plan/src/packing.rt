@@ -41,6 +41,7 @@ impl Packing {
         ensures within { result ≤ array_vec_len self.now.loads }
         ensures lowest { result ≡ place charge self.now.loads.items }
     {
+        // Tried as `position`: the proof did not close through `has_room`.
         for (bin, load) in self.loads.iter().enumerate() {
             if has_room(*load, charge) {
                 return bin;

@@ -20,7 +20,7 @@ pub enum RowRefusal {
 }
 
 impl RowRefusal {
-    // The refusal's number, by which files, firmware and reports know it.
+    // The refusal's number, by which files, firmware and reports know it. By a `match`: no cast of a case with a field.
     pub fn number(self) -> u8
         ensures { result ≡ row_number self }
     {

@@ -36,7 +36,7 @@ impl fmt::Display for BadLine {
     }
 }
 
-// The next word of a line, and what follows it from the next word on.
+// The next word of a line, and what follows it from the next word on. No plainer as one with that of `file_trials`: a crate for two lines.
 fn word(line: &str) -> (&str, &str) {
     let (word, rest) = line.split_once(' ').unwrap_or((line, ""));
     (word, rest.trim_start())

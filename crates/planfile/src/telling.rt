@@ -31,7 +31,8 @@ fn put_rows(pen: &mut Pen, table: &Table)
     }
 }
 
-// How long the rows of a table are.
+// How long the rows of a table are. A pen over nothing measures here and in `measured`: a public function that did so for any telling would
+// have to require that the telling may be called, and none here has a `requires`.
 fn rows_len(table: &Table) -> u16
     ensures { result ≡ length (flat_map row_bytes (tasks table.now)) }
 {

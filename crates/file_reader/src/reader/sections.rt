@@ -44,7 +44,7 @@ impl<'a> Reader<'a> {
         Ok(Some(section_of(kind, body, at)))
     }
 
-    // The next section, its body read too.
+    // The next section, its body read too. `file` stands on each call: it is of the reader before and after, which no field can tell.
     fn section(&mut self, table: &mut Table) -> Result<Option<Section<'a>>, Fault>
         ensures file { self.new.file.now ≡ self.old.file.now }
         ensures read { Sectioned self.old (tasks table.old) self.new (tasks table.new) result }

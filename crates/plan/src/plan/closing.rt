@@ -82,7 +82,7 @@ fn bins(cut: Cut, loads: &ArrayVec<u32, ROWS>) -> ArrayVec<Bin, ROWS>
     bins
 }
 
-// The plan of a table that was found good.
+// The plan of a table that was found good. Processors and delta go side by side: a struct of both would be taken apart here at once.
 fn with_bins(table: Table, processors: u8, delta: u8, shortest: u32) -> Plan
     requires good { verdict_of (tasks table) processors delta ≡ Good }
     requires shortest { shortest ≡ shortest_of (tasks table) }

@@ -96,6 +96,7 @@ impl Plan {
         self.bins.as_slice()
     }
 
+    // No plainer with `reserve` as one question: it would be handed the field that is asked for.
     // The sum of the charges in a bin, or none where there is no such bin.
     pub fn load(&self, bin: u8) -> Option<u32>
         ensures { result ≡ slice_get (planned self.now).loads bin }

@@ -29,6 +29,7 @@ impl Jobs {
         Jobs { slots }
     }
 
+    // That a task's number is below 64 is asked here and twice below: no plainer as a type, made and unmade at each call.
     pub(crate) fn get(&self, task: u8) -> Job
         requires { task < 64 }
         ensures { result ≡ slice_index_or self.now.slots task none }

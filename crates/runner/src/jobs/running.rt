@@ -39,6 +39,7 @@ pub(crate) fn run_bins<L: Layout>(layout: &L, clock: u32, jobs: &mut Jobs, row: 
     ensures jobs { (w : Work) → Holds w jobs.old.slots → Advanced w (L.Layout.meaning layout.now) (state clock jobs.old.slots) (state (clock + 1) jobs.new.slots) }
 {
     blank(row);
+    // By the bins' numbers: a layout is asked by them, and has no bins to go over.
     for bin in 0..layout.bins() {
         if let Some(processor) = server(layout, clock, bin) {
             if let Some(task) = jobs.next_of(bin) {

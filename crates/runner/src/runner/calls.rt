@@ -49,6 +49,7 @@ impl<L: Layout> Runner<L> {
         }
     }
 
+    // `same` stands on each call: it is of the runner before and after, which no field of one runner can tell.
     // Starts a job of a task, due one period from now. Refused where there is no such task, and until the period of its last job is over.
     pub fn request(&mut self, task: u8) -> Result<(), CallRefusal>
         ensures requested { Requested (work_of self.old) (state_of self.old) task (answer result) (state_of self.new) }
