@@ -12,5 +12,5 @@ pub use outstanding::Outstanding;
 pub use refusal::CallRefusal;
 pub use runner::Runner;
 
-// What a row has for a processor that runs nothing.
+// What a row has for a processor that runs nothing. Rows are bytes, as the C interface hands them over, and no Options.
 pub const IDLE: u8 = 255;
