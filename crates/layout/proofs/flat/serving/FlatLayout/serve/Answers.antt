@@ -17,11 +17,6 @@ overflow_cast-result c =
     let l = processor_below s.slot s.processors (reserved s) p a (offset s.slot a c.args.tick) s.fit (x.started p (omega (arith, here.1, count_reserved s))) here.0.early in
     record { fits = omega (arith, s.most.1, l, ap (λ y. y / s.slot) here.0.by) }
 
-pub returns-in_err-position : goal.returns-in_err-position
-returns-in_err-position c =
-    let x = c.args.self.now in
-    c.from_residual.ensures ∙ ap (option_map (λ y. y / x.shares.slot)) (sym c.in_err-position.was) ∙ flat_answered x c.args.tick c.args.bin c.position.result c.position.ensures
-
 pub returns : goal.returns
 returns c =
     let x = c.args.self.now in
