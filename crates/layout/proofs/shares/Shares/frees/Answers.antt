@@ -9,11 +9,6 @@ use Rattle.layout.proofs.shares.Shares.frees.Goals as goal
 pub loop-q-init : goal.loop-q-init
 loop-q-init c = let s = c.args.self.now in (search rules, λ p l. absurd (omega arith), sym (before_none (room s.slot (reserved s))), omega arith)
 
-pub overflow_sub-next : goal.overflow_sub-next
-overflow_sub-next c =
-    let s = c.args.self.now in
-    omega (arith, s.fit.each c.loop-q.q, c.reserve.ensures)
-
 pub loop-q-preserved : goal.loop-q-preserved
 loop-q-preserved c =
     let s = c.args.self.now in

@@ -1,10 +1,9 @@
 use Rattle.std.proofs.Common.{◌/◌, get_or, sym, ap, ◌∙◌, arith}
-use Rattle.std.specs.Option.{option_map}
 use Rattle.layout_laws.specs.Offset.{offset}
 use Rattle.layout_laws.proofs.FlatLaws.{processor_below}
 use Rattle.layout.specs.Lawful.{count_reserved}
 use Rattle.layout.specs.Shared.{reserved, starts}
-use Rattle.layout.proofs.Serving.{answered_at, flat_answered}
+use Rattle.layout.proofs.Serving.{answered_at}
 use Rattle.layout.proofs.flat.serving.FlatLayout.serve.Goals as goal
 
 pub overflow_cast-result : goal.overflow_cast-result
@@ -16,13 +15,3 @@ overflow_cast-result c =
     let here = answered_at s.slot a c.args.tick p c.in_ok-position.position (reserved s) (sym c.position.ensures ∙ c.in_ok-position.was) in
     let l = processor_below s.slot s.processors (reserved s) p a (offset s.slot a c.args.tick) s.fit (x.started p (omega (arith, here.1, count_reserved s))) here.0.early in
     record { fits = omega (arith, s.most.1, l, ap (λ y. y / s.slot) here.0.by) }
-
-pub returns-in_err-position : goal.returns-in_err-position
-returns-in_err-position c =
-    let x = c.args.self.now in
-    c.from_residual.ensures ∙ ap (option_map (λ y. y / x.shares.slot)) (sym c.in_err-position.was) ∙ flat_answered x c.args.tick c.args.bin c.position.result c.position.ensures
-
-pub returns : goal.returns
-returns c =
-    let x = c.args.self.now in
-    ap (option_map (λ y. y / x.shares.slot)) (sym c.in_ok-position.was) ∙ flat_answered x c.args.tick c.args.bin c.position.result c.position.ensures
