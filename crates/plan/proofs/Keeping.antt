@@ -57,9 +57,6 @@ not_good : {X : Type 0} (v : Verdict) (x none : X) → (v ≡ Good → ⊥) → 
 not_good (Ok good) x none n = absurd (n refl)
 not_good (Err e) x none n = refl
 
-pub as_good : {X : Type 0} (v : Verdict) (x none : X) → v ≡ Good → where_good v x none ≡ x
-as_good v x none e = ap (λ w. where_good w x none) e
-
 pub no_plan : (ts : List Task) (m δ : ℕ) → (verdict_of ts m δ ≡ Good → ⊥) → NoPlan (closed ts m δ)
 no_plan ts m δ n =
     let v = verdict_of ts m δ in

@@ -1,5 +1,5 @@
 -- First-Fit: the search for a bin, and what putting a charge there leaves.
-use Rattle.std.proofs.Common.{◌≡◌, ℕ, suc, ◌+◌, ◌<◌, true, false, cond, leb, List, [], ◌∷◌, ◌++◌, length, get_or, drop, set, refl, ap, ◌∙◌, arith}
+use Rattle.std.proofs.Common.{sym, ◌≡◌, ℕ, suc, ◌+◌, ◌<◌, true, false, cond, leb, List, [], ◌∷◌, ◌++◌, length, get_or, drop, set, refl, ap, ◌∙◌, arith}
 use Rattle.std.proofs.lemmas.List.{at_drop_more}
 use Rattle.std.proofs.lemmas.Bool.{cond-true, cond-false}
 use Rattle.plan.specs.Method.{full, place, put}
@@ -17,6 +17,11 @@ pub put_set : (c : ℕ) (ws : List ℕ) → place c ws < length ws → put c ws 
 put_set c [] h = absurd (omega arith)
 put_set c (w ∷ ws) h =
     (elim (leb (w + c) full) as (λ b. cond b 0 (suc (place c ws)) < suc (length ws) → cond b ((w + c) ∷ ws) (w ∷ put c ws) ≡ set (w ∷ ws) (cond b 0 (suc (place c ws))) (get_or (w ∷ ws) (cond b 0 (suc (place c ws))) 0 + c)) [ true ↦ λ l. refl | false ↦ λ l. ap (λ vs. w ∷ vs) (put_set c ws (omega arith)) ]) h
+
+-- what is written where a charge is put into a bin in use
+pub added : (c : ℕ) (ws : List ℕ) (p v : ℕ) → p ≡ place c ws → p < length ws → v ≡ get_or ws p 0 → set ws p (v + c) ≡ put c ws
+added c ws p v at l is =
+    ap (λ x. set ws p (x + c)) is ∙ ap (λ q. set ws q (get_or ws q 0 + c)) at ∙ sym (put_set c ws (omega (arith, at)))
 
 pub put_open : (c : ℕ) (ws : List ℕ) → place c ws ≡ length ws → put c ws ≡ ws ++ c ∷ []
 put_open c [] h = refl

@@ -1,7 +1,10 @@
 -- Quotients rounded up and down: charges, reserves, slots.
-use Rattle.std.proofs.Common.{ℕ, suc, ◌+◌, ◌-◌, ◌*◌, ◌/◌, ◌<◌, ◌≤◌, mod-lt, mul-le-mul_left, arith}
+use Rattle.std.proofs.Common.{◌≡◌, ℕ, suc, ◌+◌, ◌-◌, ◌*◌, ◌/◌, ◌<◌, ◌≤◌, ⊎_elim, mod-lt, mul-le-mul_left, arith}
 use native.Mathlib.Nat.{div-add-mod}
-use Rattle.std.proofs.lemmas.Nat.{div_below, le-div, div-add-mod'}
+use Rattle.std.specs.Int.{div_ceil}
+use Rattle.std.proofs.lemmas.Grind.{div_ceil_times}
+use Rattle.std.proofs.lemmas.Bool.{cases_lt}
+use Rattle.std.proofs.lemmas.Nat.{mul-le, div_below, le-div, div-add-mod'}
 use Rattle.plan.specs.Rows.{Task}
 use Rattle.plan.specs.Method.{full, up, charge, reserve_of}
 use Rattle.plan.specs.Laws.{LeastAbove, Slot, Reserve}
@@ -16,6 +19,15 @@ least_above n d pos = record {
   enough = omega (arith, div-add-mod (n + d - 1) d, mod-lt (n + d - 1) pos);
   least = λ y h. up_least n d y pos h;
 }
+
+-- the library's quotient is this one: enough, and a whole divisor below is not
+pub up_is : (n d : ℕ) → 0 < d → div_ceil n d ≡ up n d
+up_is n d pos =
+    let c = div_ceil n d in
+    let t = div_ceil_times n d pos in
+    let u = least_above n d pos in
+    let below : c ≤ up n d = ⊎_elim (λ l. absurd (omega (arith, t.1, u.enough, mul-le (up n d + 1) d c d (omega (arith, l)) (omega arith)))) (λ l. l) (cases_lt (up n d) c) in
+    omega (arith, below, u.least c t.0)
 
 -- a task needs no more than a whole processor
 pub charge_light : (t : Task) → 1 ≤ t.budget → t.budget ≤ t.period → charge t ≤ full

@@ -1,26 +1,12 @@
--- A table's rows, and the answers to a row.
-use Rattle.std.proofs.Common.{◌≡◌, ℕ, zero, suc, ◌<◌, ◌≤◌, cond, ltb, List, [], ◌∷◌, map, Some, None, Option, ap, ◌∙◌, subst, arith}
+-- The rows of a table are good rows.
+use Rattle.std.proofs.lemmas.List.{length-map, get_or-map}
+use Rattle.std.proofs.Common.{length, get_or, sym, ap, arith, ◌∙◌, ◌<◌, ◌≡◌, ℕ, zero, suc, List, [], ◌∷◌, map, Some, None, subst, arith}
 use Rattle.std.specs.List.{slice_get}
-use Rattle.std.proofs.lemmas.Bool.{lt-ltb, le-ltb, cond-true, cond-false}
-use Rattle.plan.specs.declared.refusal.RowRefusal.{RowRefusal}
-use Rattle.plan.specs.declared.refusal.RowRefusal.TheVariants.{TableFull}
 use Rattle.plan.specs.declared.row.Row.{Row}
 use Rattle.plan.specs.declared.table.Table.{Table}
 use Rattle.plan.specs.Laws.{GoodRow}
-use Rattle.plan.specs.Rows.{Task, name_refusal, number_refusal, first_of, row_refusal}
+use Rattle.plan.specs.Rows.{Task}
 use Rattle.plan.specs.Views.{task_of, tasks}
-
--- what is decided of a row whose name and numbers are good
-good_row : (b p : ℕ) (name : List ℕ) (n : ℕ) → name_refusal name ≡ None → number_refusal b p ≡ None → row_refusal b p name n ≡ cond (ltb n 64) None (Some TableFull)
-good_row b p name n x y =
-    let full : Option RowRefusal = cond (ltb n 64) None (Some TableFull) in
-    ap (λ o. first_of o (first_of (number_refusal b p) full)) x ∙ ap (λ o. first_of o full) y
-
-pub row_accepted : (b p : ℕ) (name : List ℕ) (n : ℕ) → name_refusal name ≡ None → number_refusal b p ≡ None → n < 64 → row_refusal b p name n ≡ None
-row_accepted b p name n x y l = good_row b p name n x y ∙ cond-true (ltb n 64) None (Some TableFull) (lt-ltb n 64 l)
-
-pub row_over : (b p : ℕ) (name : List ℕ) (n : ℕ) → name_refusal name ≡ None → number_refusal b p ≡ None → 64 ≤ n → row_refusal b p name n ≡ Some TableFull
-row_over b p name n x y l = good_row b p name n x y ∙ cond-false (ltb n 64) None (Some TableFull) (le-ltb n 64 l)
 
 -- a row keeps the rules of rows
 row_kept : (r : Row) → GoodRow (task_of r)
@@ -36,3 +22,11 @@ nth_from_map f (x ∷ xs) (suc i) y e = nth_from_map f xs i y e
 
 pub rows_kept : (t : Table) (i : ℕ) (task : Task) → slice_get (tasks t) i ≡ Some task → GoodRow task
 rows_kept t i task e = let r = nth_from_map task_of t.rows.items i task e in subst GoodRow r.1 (row_kept r.0)
+
+-- the row at i is task i
+pub task_at : (t : Table) (i : ℕ) (r : Row) (rows : List Row) → rows ≡ t.rows.items → i < length rows → r ≡ get_or rows i r → (i < length (tasks t)) × (get_or (tasks t) i (task_of r) ≡ task_of r)
+task_at t i r rows e l is =
+    let m : i < length t.rows.items = omega (arith, l, ap length e) in (
+      omega (arith, m, length-map t.rows.items task_of),
+      get_or-map task_of t.rows.items i r (task_of r) m ∙ ap task_of (sym (is ∙ ap (λ xs. get_or xs i r) e)),
+    )

@@ -1,8 +1,6 @@
 // Plans: a table of sporadic tasks, closed for m processors and a parameter delta.
 #![tactic(auto)]
 
-ghost use Rattle.std.specs.Prelude.{◌≡◌, ◌+◌, ◌-◌, ◌/◌, ◌^◌, ◌<◌};
-
 pub mod bin;
 pub mod examples;
 pub mod name;
@@ -23,12 +21,3 @@ pub use refusal::RowRefusal;
 pub use row::Row;
 pub use table::Table;
 pub use verdict::{PlanRefusal, Verdict};
-
-// n ÷ d, rounded up.
-pub(crate) fn quotient_up(n: u64, d: u64) -> u64
-    requires some { 0 < d }
-    requires room { n + d < 2 ^ 64 }
-    ensures { result ≡ (n + d - 1) / d }
-{
-    (n + d - 1) / d
-}

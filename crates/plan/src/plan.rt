@@ -27,9 +27,10 @@ pub struct Plan {
     verdict: Verdict,
     shortest: u32,
     slot: u32,
-    // The bin of each task.
+    // The bin of each task, beside the table's rows and not in them: reopening gives the table back whole.
     bin_of: ArrayVec<u8, ROWS>,
     bins: ArrayVec<Bin, ROWS>,
+    // Stated, since a clause does not see a vector's capacity.
     ghost few: { array_vec_len bins ≤ 64 },
     ghost judged: { verdict ≡ verdict_of (tasks table) processors delta },
     ghost least: { shortest ≡ shortest_of (tasks table) },

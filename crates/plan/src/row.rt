@@ -3,9 +3,9 @@ ghost use Rattle.std.specs.Prelude.{◌≡◌, ◌*◌, ◌≤◌, ◌∷◌, []
 ghost use Rattle.plan.specs.Rows.{number_refusal};
 ghost use Rattle.plan.specs.Method.{full, up};
 
+use crate::FULL;
 use crate::name::Name;
 use crate::refusal::RowRefusal;
-use crate::{FULL, quotient_up};
 
 // The longest period, in ticks.
 pub const LONGEST_PERIOD: u32 = 1_000_000;
@@ -60,7 +60,7 @@ impl Row {
         ensures is { result ≡ up (self.now.budget * full) self.now.period }
         ensures light { result ≤ full }
     {
-        quotient_up(self.budget as u64 * FULL as u64, self.period as u64) as u32
+        (self.budget as u64 * FULL as u64).div_ceil(self.period as u64) as u32
     }
 
     pub fn budget(&self) -> u32

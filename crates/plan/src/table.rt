@@ -16,5 +16,6 @@ pub const ROWS: usize = 64;
 #[derive(Drop)]
 pub struct Table {
     rows: ArrayVec<Row, ROWS>,
+    // Stated, since a clause does not see a vector's capacity.
     ghost few: { array_vec_len rows ≤ 64 },
 }

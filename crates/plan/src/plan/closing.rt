@@ -8,11 +8,11 @@ ghost use Rattle.plan.specs.Plans.{planned};
 ghost use Rattle.plan.specs.Views.{tasks};
 
 use super::{LARGEST_DELTA, MOST_PROCESSORS, Plan};
+use crate::FULL;
 use crate::bin::Bin;
 use crate::packing::Packing;
 use crate::table::{ROWS, Table};
 use crate::verdict::{PlanRefusal, Verdict};
-use crate::{FULL, quotient_up};
 use arrayvec::ArrayVec;
 
 fn judge(processors: u8, delta: u8, rows: u8, shortest: u32) -> Verdict
@@ -62,7 +62,7 @@ impl Cut {
         let load = load as u64;
         let wanted = self.slot as u64 * (delta + 1) * load;
         let part = load + delta * FULL as u64;
-        quotient_up(wanted, part) as u32
+        wanted.div_ceil(part) as u32
     }
 }
 
@@ -72,6 +72,7 @@ fn bins(cut: Cut, loads: &ArrayVec<u32, ROWS>) -> ArrayVec<Bin, ROWS>
     ensures loads { map load_of result.items ≡ loads.now.items }
     ensures reserves { map reserve_in result.items ≡ map (reserve_of cut.slot cut.delta) loads.now.items }
 {
+    // Pushed one by one: `collect` wants an allocator, and there is no heap here.
     let mut bins = ArrayVec::new();
     for load in loads.iter() {
         bins.push(Bin {

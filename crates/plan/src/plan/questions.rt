@@ -70,8 +70,7 @@ impl Plan {
     pub fn charge(&self, task: u8) -> Option<u32>
         ensures { result ≡ slice_get (charges_of (planned self.now).tasks) task }
     {
-        let row = self.table.row(task)?;
-        Some(row.charge())
+        self.row(task).map(|row| row.charge())
     }
 
     // The bin of a task, or none where there is no such task or the plan has no bins.
@@ -101,16 +100,14 @@ impl Plan {
     pub fn load(&self, bin: u8) -> Option<u32>
         ensures { result ≡ slice_get (planned self.now).loads bin }
     {
-        let bin = self.bins.get(bin as usize)?;
-        Some(bin.load)
+        self.bins.get(bin as usize).map(|bin| bin.load)
     }
 
     // The ticks of each slot that a bin gets, or none where there is no such bin.
     pub fn reserve(&self, bin: u8) -> Option<u32>
         ensures { result ≡ slice_get (planned self.now).reserves bin }
     {
-        let bin = self.bins.get(bin as usize)?;
-        Some(bin.reserve)
+        self.bins.get(bin as usize).map(|bin| bin.reserve)
     }
 
     // The reserves of all bins together.

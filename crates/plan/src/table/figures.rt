@@ -24,6 +24,7 @@ impl Table {
     pub(crate) fn shortest(&self) -> u32
         ensures { result ≡ shortest_of (tasks self.now) }
     {
+        // Tried as `map` and `min`: the proof did not close, which has to take the run of the chain back to the rows.
         let mut least = 0;
         for row in self.rows.iter() {
             least = shorter(least, row.period());

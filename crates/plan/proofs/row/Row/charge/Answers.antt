@@ -1,18 +1,7 @@
-use Rattle.std.proofs.Common.{◌*◌, ◌≤◌, arith}
-use Rattle.plan.specs.Method.{full, up}
-use Rattle.plan.proofs.Rounding.{up_least}
+use Rattle.std.proofs.Common.{◌*◌, ◌∙◌, arith}
+use Rattle.plan.specs.Method.{full}
+use Rattle.plan.proofs.Rounding.{up_is}
 use Rattle.plan.proofs.row.Row.charge.Goals as goal
 
-pub overflow_cast-result : goal.overflow_cast-result
-unfolding up
-overflow_cast-result c =
-    let s = c.args.self.now in
-    let light : up (s.budget * full) s.period ≤ full = up_least (s.budget * full) s.period full (omega (arith, s.some, s.room)) (omega (arith, s.room)) in
-    record { fits = omega (arith, c.quotient_up.ensures) }
-
-pub returns : goal.returns
-unfolding up
-returns c =
-    let s = c.args.self.now in
-    let light : up (s.budget * full) s.period ≤ full = up_least (s.budget * full) s.period full (omega (arith, s.some, s.room)) (omega (arith, s.room)) in
-    record { is = c.quotient_up.ensures; light = omega (arith, c.quotient_up.ensures) }
+pub returns-clause-is : goal.returns-clause-is
+returns-clause-is c = let s = c.args.self.now in c.div_ceil.ensures ∙ up_is (s.budget * full) s.period (omega (arith, s.some, s.room))

@@ -1,10 +1,11 @@
-use Rattle.std.proofs.Common.{◌<◌, [], length, get_or, take, ap, sym, ◌∙◌, arith}
+use Rattle.std.proofs.Common.{[], length, take, ap, sym, ◌∙◌, arith}
 use Rattle.std.proofs.lemmas.List.{length-map, length-take-le, get_or-map}
 use Rattle.plan.specs.Method.{charge}
 use Rattle.plan.specs.Closing.{charges_of}
 use Rattle.plan.specs.Views.{task_of, tasks}
 use Rattle.plan.proofs.Filling.{packs_more}
 use Rattle.plan.proofs.FirstFit.{bins_length}
+use Rattle.plan.proofs.Rowing.{task_at}
 use Rattle.plan.proofs.table.Table.first_fit.Goals as goal
 
 pub put-requires-clause-room : goal.put-requires-clause-room
@@ -12,21 +13,14 @@ put-requires-clause-room c =
     let t = c.args.self.now in
     let cs = charges_of (tasks t) in
     let i = c.loop-row.row-index in
-    omega (
-      arith,
-      ap length c.loop-row.invariant.placed,
-      bins_length [] (take i cs),
-      length-take-le i cs (omega (arith, length-map (tasks t) charge, length-map t.rows.items task_of, ap length c.deref-row-items.ensures.0)),
-      t.few,
-    )
+    let at = task_at t i c.row-item.result c.deref-row-items.result.now c.deref-row-items.ensures.0 (omega arith) c.row-item.is in
+    omega (arith, ap length c.loop-row.invariant.placed, bins_length [] (take i cs), length-take-le i cs (omega (arith, at.0, length-map (tasks t) charge)), at.0, length-map t.rows.items task_of, t.few)
 
 pub loop-row-preserved : goal.loop-row-preserved
 loop-row-preserved c =
     let t = c.args.self.now in
     let r = c.row-item.result in
     let i = c.loop-row.row-index in
-    let here = c.deref-row-items.ensures.0 in
-    let l : i < length t.rows.items = omega (arith, ap length here) in
-    packs_more (charges_of (tasks t)) i c.charge.result c.loop-row.packing c.put.new.self (omega (arith, length-map (tasks t) charge, length-map t.rows.items task_of))
-    (get_or-map charge (tasks t) i (task_of r) 0 (omega (arith, length-map t.rows.items task_of)) ∙ ap charge (get_or-map task_of t.rows.items i r (task_of r) l) ∙ ap (λ x. charge (task_of x)) (sym (c.row-item.is ∙ ap (λ xs. get_or xs i r) here)) ∙ sym c.charge.ensures.is)
-    c.loop-row.invariant c.put.ensures.placed c.put.ensures.loaded
+    let at = task_at t i r c.deref-row-items.result.now c.deref-row-items.ensures.0 (omega arith) c.row-item.is in
+    packs_more (charges_of (tasks t)) i c.charge.result c.loop-row.packing c.put.new.self (omega (arith, at.0, length-map (tasks t) charge))
+    (get_or-map charge (tasks t) i (task_of r) 0 at.0 ∙ ap charge at.1 ∙ sym c.charge.ensures.is) c.loop-row.invariant c.put.ensures.placed c.put.ensures.loaded
