@@ -40,92 +40,94 @@ impl fmt::Display for Bar {
     }
 }
 
+impl Report<'_> {
+    fn heading<W: fmt::Write>(&self, f: &mut fmt::Formatter<W>) -> fmt::Result {
+        let processors = self.plan.processors();
+        let delta = self.plan.delta();
+        let number = self.plan.number();
+        let shortest = self.plan.shortest();
+        let slot = self.plan.slot();
+        writeln!(f, "processors {processors}, delta {delta}")?;
+        match self.plan.verdict() {
+            Ok(()) => writeln!(f, "verdict {number}: good")?,
+            Err(refusal) => writeln!(f, "verdict {number}: {refusal}")?,
+        }
+        writeln!(f, "shortest period {shortest}, slot {slot}")
+    }
+
+    fn tasks<W: fmt::Write>(&self, f: &mut fmt::Formatter<W>) -> fmt::Result {
+        if self.plan.rows().is_empty() {
+            return Ok(());
+        }
+        writeln!(f)?;
+        writeln!(f, "task   budget   period     charge  bin  name")?;
+        for (task, row) in (0u8..).zip(self.plan.rows()) {
+            self.task_line(task, row, f)?;
+        }
+        Ok(())
+    }
+
+    fn task_line<W: fmt::Write>(
+        &self,
+        task: u8,
+        row: &Row,
+        f: &mut fmt::Formatter<W>,
+    ) -> fmt::Result {
+        let budget = row.budget();
+        let period = row.period();
+        let charge = Percent(self.plan.charge(task).unwrap_or(0));
+        let name = row.name();
+        write!(f, "{task:>4}  {budget:>7}  {period:>7}  {charge}")?;
+        match self.plan.bin(task) {
+            Some(bin) => writeln!(f, "  {bin:>3}  {name}"),
+            None => writeln!(f, "    -  {name}"),
+        }
+    }
+
+    fn bins<W: fmt::Write>(&self, f: &mut fmt::Formatter<W>) -> fmt::Result {
+        if self.plan.packed().is_empty() {
+            return Ok(());
+        }
+        let whole = self.plan.slot();
+        writeln!(f)?;
+        writeln!(f, " bin       load  reserve of the slot")?;
+        for (number, bin) in self.plan.packed().iter().enumerate() {
+            let load = Percent(bin.load);
+            let part = bin.reserve;
+            let bar = Bar { part, whole };
+            writeln!(f, "{number:>4}  {load}  {part:>7}  {bar}")?;
+        }
+        Ok(())
+    }
+
+    fn sum<W: fmt::Write>(&self, f: &mut fmt::Formatter<W>) -> fmt::Result {
+        if self.plan.packed().is_empty() {
+            return Ok(());
+        }
+        let processors = self.plan.processors();
+        let slot = self.plan.slot();
+        let wanted = self.plan.reserved() as u64;
+        let there = processors as u64 * slot as u64;
+        writeln!(f)?;
+        write!(
+            f,
+            "reserves {wanted} of {there} ticks (processors {processors} x slot {slot}): "
+        )?;
+        if wanted <= there {
+            let free = there - wanted;
+            writeln!(f, "{free} free")
+        } else {
+            let over = wanted - there;
+            writeln!(f, "{over} too many")
+        }
+    }
+}
+
 impl fmt::Display for Report<'_> {
     fn fmt<W: fmt::Write>(&self, f: &mut fmt::Formatter<W>) -> fmt::Result {
-        heading(self.plan, f)?;
-        tasks(self.plan, f)?;
-        bins(self.plan, f)?;
-        sum(self.plan, f)
-    }
-}
-
-fn heading<W: fmt::Write>(plan: &Plan, f: &mut fmt::Formatter<W>) -> fmt::Result {
-    let processors = plan.processors();
-    let delta = plan.delta();
-    let number = plan.number();
-    let shortest = plan.shortest();
-    let slot = plan.slot();
-    writeln!(f, "processors {processors}, delta {delta}")?;
-    match plan.verdict() {
-        Ok(()) => writeln!(f, "verdict {number}: good")?,
-        Err(refusal) => writeln!(f, "verdict {number}: {refusal}")?,
-    }
-    writeln!(f, "shortest period {shortest}, slot {slot}")
-}
-
-fn tasks<W: fmt::Write>(plan: &Plan, f: &mut fmt::Formatter<W>) -> fmt::Result {
-    if plan.tasks() == 0 {
-        return Ok(());
-    }
-    writeln!(f)?;
-    writeln!(f, "task   budget   period     charge  bin  name")?;
-    for (task, row) in (0u8..).zip(plan.rows()) {
-        task_line(plan, task, row, f)?;
-    }
-    Ok(())
-}
-
-fn task_line<W: fmt::Write>(
-    plan: &Plan,
-    task: u8,
-    row: &Row,
-    f: &mut fmt::Formatter<W>,
-) -> fmt::Result {
-    let budget = row.budget();
-    let period = row.period();
-    let charge = Percent(plan.charge(task).unwrap_or(0));
-    let name = row.name();
-    write!(f, "{task:>4}  {budget:>7}  {period:>7}  {charge}")?;
-    match plan.bin(task) {
-        Some(bin) => writeln!(f, "  {bin:>3}  {name}"),
-        None => writeln!(f, "    -  {name}"),
-    }
-}
-
-fn bins<W: fmt::Write>(plan: &Plan, f: &mut fmt::Formatter<W>) -> fmt::Result {
-    if plan.bins() == 0 {
-        return Ok(());
-    }
-    let whole = plan.slot();
-    writeln!(f)?;
-    writeln!(f, " bin       load  reserve of the slot")?;
-    for (number, bin) in plan.packed().iter().enumerate() {
-        let load = Percent(bin.load);
-        let part = bin.reserve;
-        let bar = Bar { part, whole };
-        writeln!(f, "{number:>4}  {load}  {part:>7}  {bar}")?;
-    }
-    Ok(())
-}
-
-fn sum<W: fmt::Write>(plan: &Plan, f: &mut fmt::Formatter<W>) -> fmt::Result {
-    if plan.bins() == 0 {
-        return Ok(());
-    }
-    let processors = plan.processors();
-    let slot = plan.slot();
-    let wanted = plan.reserved() as u64;
-    let there = processors as u64 * slot as u64;
-    writeln!(f)?;
-    write!(
-        f,
-        "reserves {wanted} of {there} ticks (processors {processors} x slot {slot}): "
-    )?;
-    if wanted <= there {
-        let free = there - wanted;
-        writeln!(f, "{free} free")
-    } else {
-        let over = wanted - there;
-        writeln!(f, "{over} too many")
+        self.heading(f)?;
+        self.tasks(f)?;
+        self.bins(f)?;
+        self.sum(f)
     }
 }
