@@ -1,5 +1,5 @@
 // The name of a task.
-ghost use Rattle.std.specs.Prelude.{◌≡◌, ◌∷◌, [], None, MatchResult, Some};
+ghost use Rattle.std.specs.Prelude.{◌≡◌, None, MatchResult, Some};
 ghost use Rattle.plan.specs.Rows.{printable, name_refusal};
 
 use crate::refusal::RowRefusal;
@@ -22,16 +22,6 @@ fn is_printable(byte: u8) -> bool
     matches!(byte, b' '..=b'~')
 }
 
-impl Default for Name {
-    ghost is_default = { λ n. n.text.bytes ≡ 45 ∷ [] };
-
-    fn default() -> Name {
-        let mut text = ArrayString::new();
-        text.push('-');
-        Name { text }
-    }
-}
-
 impl fmt::Display for Name {
     ghost output = { λ n. Some n.text.bytes };
 
@@ -41,6 +31,13 @@ impl fmt::Display for Name {
 }
 
 impl Name {
+    // For a row that stands for none.
+    pub(crate) fn blank() -> Name {
+        let mut text = ArrayString::new();
+        text.push('-');
+        Name { text }
+    }
+
     // The name that these bytes spell.
     pub(crate) fn new(bytes: &[u8]) -> Result<Name, RowRefusal>
         ensures { MatchResult result (λ n. (name_refusal bytes.now ≡ None) × (n.text.bytes ≡ bytes.now)) (λ e. name_refusal bytes.now ≡ Some e) }

@@ -1,11 +1,12 @@
 // A row of a table: one sporadic task.
-ghost use Rattle.std.specs.Prelude.{◌≡◌, ◌*◌, ◌≤◌, ◌∷◌, [], Some, None, MatchResult};
+ghost use Rattle.std.specs.Prelude.{◌≡◌, ◌*◌, ◌≤◌, Some, None, MatchResult};
 ghost use Rattle.plan.specs.Rows.{number_refusal};
 ghost use Rattle.plan.specs.Method.{full, up};
 
 use crate::FULL;
 use crate::name::Name;
 use crate::refusal::RowRefusal;
+use std::default::MadeWith;
 
 // The longest period, in ticks.
 pub const LONGEST_PERIOD: u32 = 1_000_000;
@@ -22,15 +23,16 @@ pub struct Row {
     ghost short: { period ≤ 1000000 },
 }
 
-// The least row. A table keeps it in the places that it has no row for.
-impl Default for Row {
-    ghost is_default = { λ r. (r.budget ≡ 1) × (r.period ≡ 1) × (r.name.text.bytes ≡ 45 ∷ []) };
+// What a table's places that have no row are filled with. Nobody outside can name it, so no row is to be had but from a table.
+#[derive(Clone, Copy)]
+pub(crate) struct Blank;
 
-    fn default() -> Row {
+impl MadeWith<Blank> for Row {
+    fn made_with(_blank: Blank) -> Row {
         Row {
             budget: 1,
             period: 1,
-            name: Name::default(),
+            name: Name::blank(),
         }
     }
 }

@@ -6,7 +6,7 @@ ghost use Rattle.plan.specs.Views.{tasks};
 use super::Table;
 use crate::name::Name;
 use crate::refusal::RowRefusal;
-use crate::row::Row;
+use crate::row::{Blank, Row};
 use arrayvec::ArrayVec;
 
 impl Table {
@@ -15,7 +15,7 @@ impl Table {
         ensures { tasks result ≡ [] }
     {
         Table {
-            rows: ArrayVec::new(),
+            rows: ArrayVec::new_in(Blank),
         }
     }
 
