@@ -65,7 +65,6 @@ impl Jobs {
     pub(crate) fn next_of(&self, bin: u8) -> Option<u8>
         ensures { Picked sooner to_run bin self.now.slots 64 result }
     {
-        let place = least(&self.slots, bin)?;
-        Some(place as u8)
+        least(&self.slots, bin).map(|place| place as u8)
     }
 }
