@@ -21,10 +21,8 @@ impl Jobs {
             deadline: 0,
             left: 0,
         }; ROWS];
-        // Tried as `array::from_fn` and over `iter_mut`: the proof did not close, since the plan is then read through a closure's
-        // state, or the slots only as they are when the loop has ended.
-        for task in 0..ROWS {
-            slots[task].bin = plan.bin(task as u8).unwrap_or(0);
+        for (task, job) in slots.iter_mut().enumerate() {
+            job.bin = plan.bin(task as u8).unwrap_or(0);
         }
         Jobs { slots }
     }
