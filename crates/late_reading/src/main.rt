@@ -43,19 +43,18 @@ fn show_outstanding<L: Layout>(rt: &impl Print, runner: &Runner<L>) -> io::Resul
         Ok(0) => print!(rt; " none")?,
         Ok(count) => {
             for job in slots.iter().take(count) {
-                let name = name_of(job.task);
-                let deadline = job.deadline;
-                let left = job.left;
-                print!(rt; " {name} due {deadline} left {left};")?;
+                print!(rt;
+                    " {} due {} left {};",
+                    name_of(job.task),
+                    job.deadline,
+                    job.left
+                )?;
                 if job.task == HUMIDITY {
-                    due = Some(deadline);
+                    due = Some(job.deadline);
                 }
             }
         }
-        Err(refusal) => {
-            let number = refusal.number();
-            print!(rt; " refused {number}")?;
-        }
+        Err(refusal) => print!(rt; " refused {}", refusal.number())?,
     }
     println!(rt)?;
     Ok(due)
@@ -70,10 +69,10 @@ fn request<L: Layout>(
     let name = name_of(task);
     match runner.request(task) {
         Ok(()) => println!(rt; "clock {clock}: request {name}: ok")?,
-        Err(refusal) => {
-            let number = refusal.number();
-            println!(rt; "clock {clock}: request {name}: refused {number}")?;
-        }
+        Err(refusal) => println!(rt;
+            "clock {clock}: request {name}: refused {}",
+            refusal.number()
+        )?,
     }
     show_outstanding(rt, runner)
 }
@@ -82,14 +81,8 @@ fn tick<L: Layout>(rt: &impl Print, runner: &mut Runner<L>) -> io::Result<Option
     let clock = runner.clock();
     let mut row = [IDLE; 1];
     match runner.tick(&mut row) {
-        Ok(()) => {
-            let name = name_of(row[0]);
-            println!(rt; "clock {clock}: tick: {name}")?;
-        }
-        Err(refusal) => {
-            let number = refusal.number();
-            println!(rt; "clock {clock}: tick: refused {number}")?;
-        }
+        Ok(()) => println!(rt; "clock {clock}: tick: {}", name_of(row[0]))?,
+        Err(refusal) => println!(rt; "clock {clock}: tick: refused {}", refusal.number())?,
     }
     show_outstanding(rt, runner)
 }
@@ -106,18 +99,22 @@ fn day<L: Layout>(rt: &impl Print, runner: &mut Runner<L>) -> io::Result<()> {
     request(rt, runner, LOAD_CELL)?;
     for _ in 0..12 {
         if tick(rt, runner)?.is_none() {
-            let clock = runner.clock();
-            return println!(rt; "humidity was finished at clock {clock}, and due at {due}");
+            return println!(rt;
+                "humidity was finished at clock {}, and due at {due}",
+                runner.clock()
+            );
         }
     }
     println!(rt; "humidity was not finished")
 }
 
 fn start(rt: &impl Print, plan: Plan) -> io::Result<()> {
-    let slot = plan.slot();
-    let load = plan.load(0).unwrap_or(0);
-    let reserve = plan.reserve(0).unwrap_or(0);
-    println!(rt; "slot {slot}, one bin of load {load}, reserve {reserve}")?;
+    println!(rt;
+        "slot {}, one bin of load {}, reserve {}",
+        plan.slot(),
+        plan.load(0).unwrap_or(0),
+        plan.reserve(0).unwrap_or(0)
+    )?;
     let mut flat = Flat::empty();
     let _ = flat.fill(&plan);
     let mut runner = Runner::start(plan, flat);
@@ -129,9 +126,6 @@ fn start(rt: &impl Print, plan: Plan) -> io::Result<()> {
 fn main(rt: HostRuntime) -> io::Result<()> {
     match lab() {
         Ok(plan) => start(&rt, plan),
-        Err(refusal) => {
-            let number = refusal.number();
-            println!(rt; "refused {number}")
-        }
+        Err(refusal) => println!(rt; "refused {}", refusal.number()),
     }
 }

@@ -1,6 +1,7 @@
 -- Bookings in order: what is due, and the earliest of a task.
 use Rattle.std.proofs.Common.{◌≡◌, ℕ, zero, suc, ◌<◌, ◌≤◌, false, List, [], ◌∷◌, length, get_or, Some, None, Option, sym, refl, ap, ◌∙◌, subst, suc-le-suc, zero-le, not-suc-le-zero, arith}
 use Rattle.std.specs.List.{slice_get}
+use Rattle.std.specs.Option.{option_map}
 use Rattle.std.proofs.lemmas.Bool.Decides.{nat_tests}
 use Rattle.std.proofs.lemmas.Option.{slice_get-get_or, slice_get_within, get_or_from_slice_get}
 use Rattle.order.specs.declared.ranking.Ranked.{Ghosts}
@@ -55,7 +56,7 @@ due_none clock d l up late = record {
 }
 
 -- the least booking that bears a task is its earliest
-pub earliest_some : (task : ℕ) (bs : List Booking) (i : ℕ) (d : Booking) → Least earlier (λ b. Some b.task) task bs (length bs) i → Earliest task bs (Some (get_or bs i d))
+earliest_some : (task : ℕ) (bs : List Booking) (i : ℕ) (d : Booking) → Least earlier (λ b. Some b.task) task bs (length bs) i → Earliest task bs (Some (get_or bs i d))
 earliest_some task bs i d h = record {
   place = i;
   there = slice_get-get_or bs i d h.inside;
@@ -68,5 +69,9 @@ earliest_some task bs i d h = record {
       omega arith;
 }
 
-pub earliest_none : (task : ℕ) (bs : List Booking) → Picked earlier (λ b. Some b.task) task bs (length bs) None → Earliest task bs None
+earliest_none : (task : ℕ) (bs : List Booking) → Picked earlier (λ b. Some b.task) task bs (length bs) None → Earliest task bs None
 earliest_none task bs h k other e f = let p = nth_some bs k other other e in h k other p.0 (ap (λ x. Some x.task) p.1 ∙ ap Some f)
+
+pub earliest_picked : (task : ℕ) (bs : List Booking) (d : Booking) (o : Option ℕ) → Picked earlier (λ b. Some b.task) task bs (length bs) o → Earliest task bs (option_map (λ i. get_or bs i d) o)
+earliest_picked task bs d (Some i) h = earliest_some task bs i d h
+earliest_picked task bs d None h = earliest_none task bs h

@@ -52,7 +52,6 @@ impl Line<'_, Booking> {
         ensures { Earliest task (held self.now) result }
     {
         let bookings = self.records();
-        let place = least(bookings, task)?;
-        Some(bookings[place])
+        least(bookings, task).map(|place| bookings[place])
     }
 }

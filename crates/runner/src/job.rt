@@ -5,7 +5,8 @@ ghost use Rattle.std.proofs.Common.{rules};
 
 use order::ranking::{Marked, Ranked};
 
-// `left` is 0 where the job is finished, or none was requested yet.
+// `left` is 0 where the job is finished, or none was requested yet, and `deadline` is 0 too where none was.
+// No plainer as Options: the rules count the ticks left and the deadlines of all tasks as numbers, 0 where there is no job.
 #[derive(Clone, Copy)]
 pub(crate) struct Job {
     pub(crate) bin: u8,
@@ -29,6 +30,6 @@ impl Marked for Job {
     ghost marking = { to_run };
 
     fn mark(&self) -> Option<u8> {
-        if self.left == 0 { None } else { Some(self.bin) }
+        (self.left > 0).then_some(self.bin)
     }
 }

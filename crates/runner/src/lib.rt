@@ -13,4 +13,5 @@ pub use refusal::CallRefusal;
 pub use runner::Runner;
 
 // What a row has for a processor that runs nothing. Rows are bytes, as the C interface hands them over, and no Options.
+// line_text has an IDLE of its own, since it knows no runner.
 pub const IDLE: u8 = 255;

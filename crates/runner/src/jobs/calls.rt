@@ -21,10 +21,8 @@ impl Jobs {
             deadline: 0,
             left: 0,
         }; ROWS];
-        // Tried as `array::from_fn` and over `iter_mut`: the proof did not close, since the plan is then read through a closure's
-        // state, or the slots only as they are when the loop has ended.
-        for task in 0..ROWS {
-            slots[task].bin = plan.bin(task as u8).unwrap_or(0);
+        for (task, job) in slots.iter_mut().enumerate() {
+            job.bin = plan.bin(task as u8).unwrap_or(0);
         }
         Jobs { slots }
     }
@@ -65,7 +63,6 @@ impl Jobs {
     pub(crate) fn next_of(&self, bin: u8) -> Option<u8>
         ensures { Picked sooner to_run bin self.now.slots 64 result }
     {
-        let place = least(&self.slots, bin)?;
-        Some(place as u8)
+        least(&self.slots, bin).map(|place| place as u8)
     }
 }

@@ -11,4 +11,4 @@ pub loop-task-preserved : goal.loop-task-preserved
 loop-task-preserved c =
     let bins = (planned c.args.plan.now).bins in
     let n = c.loop-task.task in
-    placed_more bins c.loop-task.slots n _ c.loop-task.invariant (omega arith) (c.unwrap_or.ensures ∙ ap (λ o. unwrap_or o 0) c.bin.ensures ∙ unwrap_or-slice_get bins n 0) (c.loop-task.invariant.deadlines n) (c.loop-task.invariant.left n)
+    placed_more bins c.loop-task.job-items n _ c.loop-task.invariant (omega arith) (c.unwrap_or-job.ensures ∙ ap (λ o. unwrap_or o 0) c.bin.ensures ∙ unwrap_or-slice_get bins n 0) (c.loop-task.invariant.deadlines n) (c.loop-task.invariant.left n)

@@ -3,4 +3,4 @@ use Rattle.runner.proofs.Tables.{Placed}
 use Rattle.runner.proofs.jobs.Jobs.of.Given as goal
 
 abbrev pub invariant-loop-task : goal.invariant-loop-task
-invariant-loop-task l = Placed (planned l.plan).bins l.slots l.task
+invariant-loop-task l = Placed (planned l.plan).bins l.job-items l.task
