@@ -10,18 +10,8 @@ use super::Shares;
 use crate::refusal::NotMade;
 use crate::share::Share;
 use arrayvec::ArrayVec;
+use plan::Plan;
 use plan::table::ROWS;
-use plan::{Bin, Plan};
-
-fn share(bin: &Bin, start: u32) -> Share
-    ensures { (result.load ≡ bin.now.load) × (result.reserve ≡ bin.now.reserve) × (result.start ≡ start) }
-{
-    Share {
-        load: bin.load,
-        reserve: bin.reserve,
-        start,
-    }
-}
 
 // The shares of a plan's bins. The first `own` bins have the end of a processor's slot each, and the others follow one another in what is
 // left.
@@ -37,9 +27,15 @@ fn laid(plan: &Plan, own: u8) -> ArrayVec<Share, ROWS>
     for (at, bin) in plan.packed().iter().enumerate() {
         if at < own as usize {
             left += plan.slot() - bin.reserve;
-            shares.push(share(bin, left));
+            shares.push(Share {
+                bin: *bin,
+                start: left,
+            });
         } else {
-            shares.push(share(bin, taken));
+            shares.push(Share {
+                bin: *bin,
+                start: taken,
+            });
             taken += bin.reserve;
         }
     }
