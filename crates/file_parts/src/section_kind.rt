@@ -7,9 +7,9 @@ use std::fmt;
 
 #[derive(Clone, Copy, Debug, PartialEq, Eq)]
 pub enum SectionKind {
-    Table = b'T',
-    Calls = b'C',
-    Note = b'N',
+    Table = b'T' as isize,
+    Calls = b'C' as isize,
+    Note = b'N' as isize,
 }
 
 // A byte that is no letter of what was looked for.
