@@ -14,6 +14,7 @@ impl Shares {
         self.bins.len() as u8
     }
 
+    // No plainer with `reserve` as one question: it would be handed the field that is asked for.
     // The load of a bin, 0 where there is no such bin.
     pub(crate) fn load(&self, bin: u8) -> u32
         ensures { result ≡ slice_index (weights self.now) bin }
