@@ -1,17 +1,7 @@
 -- Bytes placed in an area, one piece after the other.
-use Rattle.std.proofs.Common.{◌≡◌, ℕ, ◌+◌, ◌≤◌, List, [], ◌++◌, length, take, drop, sym, refl, ap, ◌∙◌, arith}
-use borrow.Rule.Slice.PartMut.{put_mid}
-use Rattle.std.proofs.lemmas.List.{append_assoc, length-append, length-take-le, take_all, take_at, drop_at, drop-drop, length-drop, append-nil, take-append-drop}
-use Rattle.std.proofs.lemmas.Slice.{put_mid-paste}
+use Rattle.std.proofs.Common.{◌≡◌, ℕ, ◌+◌, ◌≤◌, List, [], ◌++◌, length, take, drop, sym, ap, ◌∙◌, arith}
+use Rattle.std.proofs.lemmas.List.{append_assoc, length-append, length-take-le, take_at, drop_at, drop-drop, append-nil, take-append-drop}
 use Rattle.areas.specs.Areas.{placed}
-
-pub put_placed : (area bytes now : List ℕ) (p n : ℕ) → now ≡ bytes → n ≡ length bytes → put_mid p n area now ≡ placed area p bytes
-put_placed area bytes now p n e l =
-    put_mid-paste p n area now bytes (length bytes) e (sym l) refl ∙ ap (λ x. take p area ++ x ++ drop (p + length bytes) area) (take_all (length bytes) bytes (omega arith))
-
-pub placed_length : (area bytes : List ℕ) (p : ℕ) → p + length bytes ≤ length area → length (placed area p bytes) ≡ length area
-placed_length area bytes p h =
-    omega (arith, h, length-append (take p area ++ bytes) (drop (p + length bytes) area), length-append (take p area) bytes, length-take-le p area (omega (arith, h)), length-drop (p + length bytes) area)
 
 -- one piece behind another
 pub placed_more : (area xs ys : List ℕ) (p q : ℕ) → q ≡ p + length xs → p + length xs + length ys ≤ length area → placed (placed area p xs) q ys ≡ placed area p (xs ++ ys)

@@ -1,6 +1,7 @@
 -- What a pen was given, put together.
-use Rattle.std.proofs.Common.{ℕ, List, [], ◌++◌, sym, refl, ◌∙◌, arith}
-use Rattle.std.proofs.lemmas.List.{length-append}
+use Rattle.std.proofs.Common.{◌≡◌, ℕ, ◌+◌, ◌<◌, List, [], ◌∷◌, ◌++◌, length, get_or, take, sym, refl, ap, ◌∙◌, subst, arith}
+use Rattle.std.specs.List.{flat_map}
+use Rattle.std.proofs.lemmas.List.{length-append, take_more, flat_map_more}
 use Rattle.areas.proofs.Placing.{placed_nothing, placed_then}
 use Rattle.areas.specs.declared.pen.Pen.{Pen}
 use Rattle.areas.specs.Pens.{Puts}
@@ -18,3 +19,8 @@ puts_then {a} {b} {c} {xs} {ys} p q =
 
 pub puts_nothing : (a : Pen) → Puts a [] a
 puts_nothing a = record { lent = refl; sized = refl; counted = omega arith; written = λ fit. sym (placed_nothing a.area.now a.len) }
+
+-- the first i elements by their pieces, and one more
+pub puts_more : {X : Type 0} {a b c : Pen} (f : X → List ℕ) (xs : List X) (i : ℕ) (x d : X) → i < length xs → x ≡ get_or xs i d → Puts a (flat_map f (take i xs)) b → Puts b (f x) c → Puts a (flat_map f (take (i + 1) xs)) c
+puts_more {X} {a} {b} {c} f xs i x d h e p q =
+    subst (λ bs. Puts a bs c) (flat_map_more f [] (take i xs) x ∙ ap (flat_map f) (ap (λ y. take i xs ++ y ∷ []) e ∙ sym (take_more xs i d h))) (puts_then p q)

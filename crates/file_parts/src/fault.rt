@@ -77,13 +77,13 @@ impl Fault {
     pub fn names_row(self) -> bool
         ensures { result ≡ names_row self }
     {
-        match self {
+        matches!(
+            self,
             Fault::ZeroBudget { row: _ }
-            | Fault::PeriodTooLong { row: _ }
-            | Fault::BudgetOverPeriod { row: _ }
-            | Fault::TooManyRows { row: _ } => true,
-            _ => false,
-        }
+                | Fault::PeriodTooLong { row: _ }
+                | Fault::BudgetOverPeriod { row: _ }
+                | Fault::TooManyRows { row: _ }
+        )
     }
 }
 

@@ -7,9 +7,9 @@ use std::fmt;
 
 #[derive(Clone, Copy, Debug, PartialEq, Eq)]
 pub enum SectionKind {
-    Table,
-    Calls,
-    Note,
+    Table = b'T' as isize,
+    Calls = b'C' as isize,
+    Note = b'N' as isize,
 }
 
 // A byte that is no letter of what was looked for.
@@ -20,11 +20,7 @@ impl SectionKind {
     pub fn letter(self) -> u8
         ensures { result ≡ section_kind_letter self }
     {
-        match self {
-            SectionKind::Table => b'T',
-            SectionKind::Calls => b'C',
-            SectionKind::Note => b'N',
-        }
+        self as u8
     }
 }
 

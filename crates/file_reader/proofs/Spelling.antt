@@ -37,13 +37,6 @@ pub append_stands : (f : List ℕ) (p : ℕ) (xs ys : List ℕ) → Stands f p x
 append_stands f p xs ys s t =
     ap (λ n. take n (drop p f)) (length-append xs ys) ∙ take_add (length xs) (length ys) (drop p f) ∙ ap (λ l. l ++ take (length ys) (drop (length xs) (drop p f))) s ∙ ap (λ l. xs ++ take (length ys) l) (drop-drop (length xs) p f) ∙ ap (λ l. xs ++ l) t
 
--- four bytes, by their halves
-pub four_stands : (f : List ℕ) (p hi lo : ℕ) → lo < 65536 → Stands f p (two hi) → Stands f (p + 2) (two lo) → Stands f p (four (hi * 65536 + lo))
-four_stands f p hi lo h s t =
-    let q : (hi * 65536 + lo) / 65536 ≡ hi = omega arith in
-    let r : (hi * 65536 + lo) % 65536 ≡ lo = omega arith in
-    subst (λ x. Stands f p (two x ++ two ((hi * 65536 + lo) % 65536))) (sym q) (subst (λ x. Stands f p (two hi ++ two x)) (sym r) (append_stands f p (two hi) (two lo) s t))
-
 -- a row, by its fields
 pub row_stands : (f : List ℕ) (p : ℕ) (t : Task) → Stands f p (four t.budget) → Stands f (p + 4) (four t.period) → p + 8 < length f → length t.name ≡ get_or f (p + 8) 0 → Stands f (p + 9) t.name → Stands f p (row_bytes t)
 row_stands f p t b d h e n =

@@ -8,7 +8,7 @@ ghost use Rattle.file_reader.specs.Grammar.{layout_letter};
 use crate::layout_kind::LayoutKind;
 use file_parts::{Due, Section, SectionKind};
 
-// Whether it is a layout's letter: flat, semi-partitioned or dedicated.
+// Whether it is a layout's letter: flat, semi-partitioned or dedicated. Any byte is taken: the writer asks it of any letter.
 pub fn names_layout(letter: u8) -> bool
     ensures { result ≡ layout_letter letter }
 {

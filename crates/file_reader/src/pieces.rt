@@ -19,7 +19,9 @@ pub(crate) trait Pieces {
     fn clear(&mut self)
         ensures { (file : List ℕ) (at : ℕ) → whole file at at self.new };
 
-    // Takes the piece that stands here; the cursor then stands behind it.
+    // Takes the piece that stands here; the cursor then stands behind it. That a byte is left, and that the limit is inside the file, is asked
+    // here and by the cursor's two readers: it is of the cursor and the file together, and they are two arguments, since a cursor without a file
+    // can be lent to its guard `Narrowed`.
     fn take(&mut self, file: &[u8], cursor: &mut Cursor) -> Result<(), Fault>
         requires some { cursor.old.pos < cursor.old.limit }
         requires inside { cursor.old.limit ≤ length file.now }

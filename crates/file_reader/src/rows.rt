@@ -29,6 +29,7 @@ impl RowFault {
 }
 
 // A row as its bytes tell it: its numbers, and where its name stands among them; or what is wrong with its form, and zeros.
+// No `Result`: such a record, paired with the rest of the bytes, is the form that this project names for reading a row.
 #[derive(Clone, Copy, Debug, PartialEq, Eq)]
 pub struct RowRead {
     pub budget: u32,
@@ -53,6 +54,7 @@ impl RowRead {
 }
 
 // The number whose four bytes stand here.
+// No plainer with `word` as one function: each is one `from_be_bytes`, of two bytes and of four.
 fn long(bytes: &[u8], at: usize) -> u32
     requires { at + 4 ≤ length bytes.now }
     ensures is { result ≡ long_at bytes.now at }

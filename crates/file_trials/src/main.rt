@@ -12,10 +12,7 @@ use std::process::ExitCode;
 use trials::{Answer, reading, writing};
 
 fn word(line: &str) -> (&str, &str) {
-    match line.split_once(' ') {
-        Some((word, rest)) => (word, rest),
-        None => (line, ""),
-    }
+    line.split_once(' ').unwrap_or((line, ""))
 }
 
 // `LETTER ROOM CALLS`.

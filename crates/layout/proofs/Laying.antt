@@ -79,15 +79,18 @@ bound_at xs y i b c n le here before q =
     (λ l. omega (arith, get_or_past (xs ++ y ∷ []) q 0 (omega (arith, length-append xs (y ∷ []))))) (cases_lt q (i + 1))
 
 -- one more share, of the bin that was read
-module _ {p : Planned} {own : ℕ} {xs : List Share} {left taken i : ℕ} {b : Bin} (l : Laid p.slot own p.loads p.reserves xs left taken i) (r : Read p i b) (x : Share) (load : x.load ≡ b.load) (reserve : x.reserve ≡ b.reserve) where
+module _ {p : Planned} {own : ℕ} {xs : List Share} {left taken i : ℕ} {b : Bin} (l : Laid p.slot own p.loads p.reserves xs left taken i) (r : Read p i b) (start : ℕ) where
+  abbrev x : Share
+  x = record { bin = b; start = start }
+
   count : length (map start_of xs) ≡ i
   count = length-map xs start_of ∙ sym (length-map xs load_of) ∙ ap length l.loads ∙ length-take-le i p.loads (omega (arith, r.there))
 
   loads_more : map load_of (xs ++ x ∷ []) ≡ take (i + 1) p.loads
-  loads_more = map-append load_of xs (x ∷ []) ∙ ap (λ ys. ys ++ x.load ∷ []) l.loads ∙ ap (λ v. take i p.loads ++ v ∷ []) (load ∙ r.load) ∙ sym (take_more p.loads i 0 r.there)
+  loads_more = map-append load_of xs (x ∷ []) ∙ ap (λ ys. ys ++ b.load ∷ []) l.loads ∙ ap (λ v. take i p.loads ++ v ∷ []) r.load ∙ sym (take_more p.loads i 0 r.there)
 
   reserves_more : map reserve_of (xs ++ x ∷ []) ≡ take (i + 1) p.reserves
-  reserves_more = map-append reserve_of xs (x ∷ []) ∙ ap (λ ys. ys ++ x.reserve ∷ []) l.reserves ∙ ap (λ v. take i p.reserves ++ v ∷ []) (reserve ∙ r.reserve) ∙ sym (take_more p.reserves i 0 (omega (arith, r.there, r.each)))
+  reserves_more = map-append reserve_of xs (x ∷ []) ∙ ap (λ ys. ys ++ b.reserve ∷ []) l.reserves ∙ ap (λ v. take i p.reserves ++ v ∷ []) r.reserve ∙ sym (take_more p.reserves i 0 (omega (arith, r.there, r.each)))
 
   starts_more : x.start ≡ semi_start p.slot own p.reserves i → (q : ℕ) → q < i + 1 → get_or (map start_of (xs ++ x ∷ [])) q 0 ≡ semi_start p.slot own p.reserves q
   starts_more here q h =
@@ -98,9 +101,9 @@ module _ {p : Planned} {own : ℕ} {xs : List Share} {left taken i : ℕ} {b : B
       omega (arith, ap (λ ys. get_or ys q 0) (map-append start_of xs (x ∷ [])), bound_at (map start_of xs) x.start i (i * 1000000) ((i + 1) * 1000000) count (omega arith) here l.near q)
 
   -- a bin that has a processor of its own
-  pub laid_own : i < own → x.start ≡ left + (p.slot - x.reserve) → Laid p.slot own p.loads p.reserves (xs ++ x ∷ []) (left + (p.slot - x.reserve)) taken (i + 1)
+  pub laid_own : i < own → x.start ≡ left + (p.slot - b.reserve) → Laid p.slot own p.loads p.reserves (xs ++ x ∷ []) (left + (p.slot - b.reserve)) taken (i + 1)
   laid_own low start =
-      let more : free p.slot p.reserves (suc i) ≡ left + (p.slot - x.reserve) = omega (arith, before_more (room p.slot p.reserves) i, l.left_is (omega arith)) in
+      let more : free p.slot p.reserves (suc i) ≡ left + (p.slot - b.reserve) = omega (arith, before_more (room p.slot p.reserves) i, l.left_is (omega arith)) in
       let one : i + 1 ≡ suc i = omega arith in
       let none : i + 1 - own ≡ i - own = omega arith in
       record {
@@ -114,7 +117,7 @@ module _ {p : Planned} {own : ℕ} {xs : List Share} {left taken i : ℕ} {b : B
       }
 
   -- and one that has not
-  pub laid_other : own ≤ i → x.start ≡ taken → Laid p.slot own p.loads p.reserves (xs ++ x ∷ []) left (taken + x.reserve) (i + 1)
+  pub laid_other : own ≤ i → x.start ≡ taken → Laid p.slot own p.loads p.reserves (xs ++ x ∷ []) left (taken + b.reserve) (i + 1)
   laid_other high start =
       let more : i + 1 - own ≡ suc (i - own) = omega arith in
       let here : own + (i - own) ≡ i = omega arith in

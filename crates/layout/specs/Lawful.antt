@@ -22,7 +22,7 @@ pub carry : (s : Shares) → 0 < length (weights s) → Carry s.slot s.delta s.s
 carry s h = s.carry (omega (arith, count_weights s))
 
 -- the reserve that stands in the vector
-pub share_is : (s : Shares) (p : ℕ) (d : Share) → p < array_vec_len s.bins → share (reserved s) p ≡ (slice_index_or s.bins.items p d).reserve
+pub share_is : (s : Shares) (p : ℕ) (d : Share) → p < array_vec_len s.bins → share (reserved s) p ≡ (slice_index_or s.bins.items p d).bin.reserve
 share_is s p d l = get_or-map reserve_of s.bins.items p d 0 l
 
 pub load_past : (s : Shares) (p : ℕ) → array_vec_len s.bins ≤ p → slice_index (weights s) p ≡ 0

@@ -1,10 +1,10 @@
 // What a layout by slots keeps of a bin.
 
+use plan::Bin;
+
 #[derive(Clone, Copy, Default)]
 pub(crate) struct Share {
-    pub(crate) load: u32,
-    // The ticks of each slot that the bin gets.
-    pub(crate) reserve: u32,
-    // Where these begin.
+    pub(crate) bin: Bin,
+    // Where the ticks of its reserve begin.
     pub(crate) start: u32,
 }

@@ -19,6 +19,7 @@ pub(crate) struct Shares {
     pub(crate) slot: u32,
     pub(crate) bins: ArrayVec<Share, ROWS>,
     ghost most: { (1 ≤ processors) × (processors ≤ 16) },
+    // The vector holds no more, but a clause does not see its capacity.
     ghost few: { array_vec_len bins ≤ 64 },
     ghost short: { slot ≤ 1000000 },
     ghost near: { (p : ℕ) → slice_index (map start_of bins.items) p ≤ 64000000 },

@@ -117,12 +117,6 @@ module _ (S m : ℕ) (rs : List ℕ) (fit : Fit S m rs) where
       pairs (inr l) (inr l') =
           ⊎_elim (λ s. s) (⊎_elim (λ d. absurd (lenders t p p' q d l l')) (λ d. absurd (lenders t p' p q d l' l))) (cases_order p p')
 
-pub one_holder : (S m : ℕ) (rs : List ℕ) (x q q' : ℕ) → Holds S rs m x q → Holds S rs m x q' → q ≡ q'
-one_holder S m rs x q q' h h' = ⊎_elim (λ s. s) (⊎_elim (λ l. lower q q' h h' l) (λ l. sym (lower q' q h' h l))) (cases_order q q')
-  where
-    lower : (q q' : ℕ) → Holds S rs m x q → Holds S rs m x q' → q < q' → q ≡ q'
-    lower q q' h h' l = absurd (omega (arith, h.to, h'.from, before_mono (room S rs) (suc q) q' l))
-
 pub semi_exclusive : (S m T : ℕ) (rs ws : List ℕ) → Fit S m rs → Exclusive (semi S m T rs ws)
 semi_exclusive S m T rs ws fit = record {
   within = λ t p q e. within S m rs fit t p q (timed t (semi_serves S m rs t p) q e);

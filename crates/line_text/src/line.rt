@@ -1,6 +1,7 @@
 // The lines of a listing.
 
 // What a row has for a processor that runs nothing. Rows are bytes, as the C interface hands them over, and no Options.
+// It is this crate's own: the crate knows no runner.
 pub const IDLE: u8 = 255;
 
 // What was asked of a runner.

@@ -54,6 +54,7 @@ fn put_answer(pen: &mut Pen, refusal: Option<u8>)
     }
 }
 
+// `Short` stands in three contracts, here, of `measured` and of `write`: the public clause of `write` needs it from each.
 pub(crate) fn put_line(pen: &mut Pen, line: Line)
     ensures told { Puts pen.old (text line.entry) pen.new }
     ensures short { Short 80 line.entry }

@@ -29,8 +29,7 @@ fn measured(line: Line) -> usize
     ensures is { result ≡ min (length (text line.entry)) (2 ^ 64 - 1) }
     ensures short { Short 80 line.entry }
 {
-    let mut nothing = [0u8; 0];
-    let mut pen = Pen::new(&mut nothing);
+    let mut pen = Pen::new(&mut []);
     put_line(&mut pen, line);
     pen.len()
 }

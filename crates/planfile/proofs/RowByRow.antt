@@ -18,11 +18,6 @@ spelled r = row_bytes (task_of r)
 pub rows_spelled : (rs : List Row) → flat_map row_bytes (map task_of rs) ≡ flat_map spelled rs
 rows_spelled rs = flat_map-map row_bytes task_of rs
 
--- one more row
-pub row_more : (rs : List Row) (i : ℕ) (r : Row) → i < length rs → r ≡ get_or rs i r → flat_map spelled (take (i + 1) rs) ≡ flat_map spelled (take i rs) ++ spelled r
-row_more rs i r h e =
-    ap (flat_map spelled) (take_more rs i r h) ∙ flat_map-append spelled (take i rs) (get_or rs i r ∷ []) ∙ ap (λ l. flat_map spelled (take i rs) ++ l) (append-nil (spelled (get_or rs i r)) ∙ ap spelled (sym e))
-
 -- a number's bytes, high byte first
 pub long_spelled : (n : ℕ) → n < 2 ^ 32 → to_be_bytes w32 n ≡ four n
 long_spelled n h = grind (arith, common_steps)

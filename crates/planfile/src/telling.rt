@@ -36,8 +36,7 @@ fn put_rows(pen: &mut Pen, table: &Table)
 fn rows_len(table: &Table) -> u16
     ensures { result ≡ length (flat_map row_bytes (tasks table.now)) }
 {
-    let mut nothing = [0u8; 0];
-    let mut pen = Pen::new(&mut nothing);
+    let mut pen = Pen::new(&mut []);
     put_rows(&mut pen, table);
     pen.len() as u16
 }

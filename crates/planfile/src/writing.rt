@@ -28,8 +28,7 @@ fn measured(table: &Table, settings: Settings, calls: &[u8]) -> usize
     requires { length calls.now ≤ 65535 }
     ensures { result ≡ length (written settings (tasks table.now) calls.now) }
 {
-    let mut nothing = [0u8; 0];
-    let mut pen = Pen::new(&mut nothing);
+    let mut pen = Pen::new(&mut []);
     put_file(&mut pen, table, settings, calls);
     pen.len()
 }

@@ -29,7 +29,6 @@ impl<'a> Calls<'a> {
         if self.cursor.pos == self.cursor.limit {
             return Ok(None);
         }
-        let call = self.cursor.call(self.bytes)?;
-        Ok(Some(call))
+        self.cursor.call(self.bytes).map(Some)
     }
 }

@@ -28,6 +28,7 @@ impl Dedicated {
         if plan.verdict().is_err() || plan.bins() > plan.processors() {
             return Err(NotMade);
         }
+        // By a loop that pushes: `collect` wants an allocator, and there is no heap here.
         let mut loads = ArrayVec::new();
         for bin in plan.packed() {
             loads.push(bin.load);

@@ -36,7 +36,8 @@ impl Layout for Flat {
     }
 
     fn serve(&self, tick: u32, bin: u8) -> Option<u8> {
-        let position = self.shares.position(tick, bin)?;
-        Some((position / self.shares.slot) as u8)
+        self.shares
+            .position(tick, bin)
+            .map(|position| (position / self.shares.slot) as u8)
     }
 }

@@ -10,18 +10,8 @@ use super::Shares;
 use crate::refusal::NotMade;
 use crate::share::Share;
 use arrayvec::ArrayVec;
+use plan::Plan;
 use plan::table::ROWS;
-use plan::{Bin, Plan};
-
-fn share(bin: &Bin, start: u32) -> Share
-    ensures { (result.load ≡ bin.now.load) × (result.reserve ≡ bin.now.reserve) × (result.start ≡ start) }
-{
-    Share {
-        load: bin.load,
-        reserve: bin.reserve,
-        start,
-    }
-}
 
 // The shares of a plan's bins. The first `own` bins have the end of a processor's slot each, and the others follow one another in what is
 // left.
@@ -31,15 +21,22 @@ fn laid(plan: &Plan, own: u8) -> ArrayVec<Share, ROWS>
     ensures starts { (p : ℕ) → p < array_vec_len result → slice_index (map start_of result.items) p ≡ semi_start (planned plan.now).slot own (planned plan.now).reserves p }
     ensures near { (p : ℕ) → slice_index (map start_of result.items) p ≤ 64000000 }
 {
+    // By a loop that pushes: `collect` wants an allocator, and there is no heap here.
     let mut shares = ArrayVec::new();
     let mut left = 0;
     let mut taken = 0;
     for (at, bin) in plan.packed().iter().enumerate() {
         if at < own as usize {
             left += plan.slot() - bin.reserve;
-            shares.push(share(bin, left));
+            shares.push(Share {
+                bin: *bin,
+                start: left,
+            });
         } else {
-            shares.push(share(bin, taken));
+            shares.push(Share {
+                bin: *bin,
+                start: taken,
+            });
             taken += bin.reserve;
         }
     }

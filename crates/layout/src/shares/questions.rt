@@ -14,18 +14,21 @@ impl Shares {
         self.bins.len() as u8
     }
 
+    // No plainer with `reserve` as one question: it would be handed the field that is asked for.
     // The load of a bin, 0 where there is no such bin.
     pub(crate) fn load(&self, bin: u8) -> u32
         ensures { result ≡ slice_index (weights self.now) bin }
     {
-        self.bins.get(bin as usize).map_or(0, |share| share.load)
+        self.bins
+            .get(bin as usize)
+            .map_or(0, |share| share.bin.load)
     }
 
     // The reserve of a bin, 0 where there is no such bin.
     fn reserve(&self, bin: usize) -> u32
         ensures { result ≡ slice_index (reserved self.now) bin }
     {
-        self.bins.get(bin).map_or(0, |share| share.reserve)
+        self.bins.get(bin).map_or(0, |share| share.bin.reserve)
     }
 
     // What the processors below each have left beside their own bins.
@@ -50,7 +53,7 @@ impl Shares {
         }
         let share = self.bins.get(bin as usize)?;
         let k = offset(self.slot, share.start, tick);
-        (k < share.reserve).then_some(share.start + k)
+        (k < share.bin.reserve).then_some(share.start + k)
     }
 }
 

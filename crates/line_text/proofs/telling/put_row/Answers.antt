@@ -1,10 +1,10 @@
-use Rattle.std.proofs.Common.{sym, subst, arith}
+use Rattle.std.proofs.Common.{refl, subst, arith}
 use Rattle.std.specs.List.{flat_map}
 use Rattle.std.proofs.lemmas.List.{take_all}
 use Rattle.areas.specs.Pens.{Puts}
 use Rattle.line_text.specs.Texts.{entry}
-use Rattle.line_text.proofs.Entries.{entries_more, entries_short}
-use Rattle.areas.proofs.Putting.{puts_then, puts_nothing}
+use Rattle.line_text.proofs.Entries.{entries_short}
+use Rattle.areas.proofs.Putting.{puts_more, puts_nothing}
 use Rattle.line_text.proofs.telling.put_row.Goals as goal
 
 pub loop-task-init : goal.loop-task-init
@@ -12,7 +12,7 @@ loop-task-init c = puts_nothing c.args.pen.now
 
 pub loop-task-preserved : goal.loop-task-preserved
 loop-task-preserved c =
-    subst (λ bs. Puts c.args.pen.now bs c.put_entry.new.pen) (sym (entries_more c.args.row.now c.loop-task.task-index (omega arith))) (puts_then c.loop-task.invariant c.put_entry.ensures)
+    puts_more entry c.args.row.now c.loop-task.task-index _ 0 (omega arith) refl c.loop-task.invariant c.put_entry.ensures
 
 pub returns-clause-told : goal.returns-clause-told
 returns-clause-told c =

@@ -2,9 +2,9 @@ use Rattle.std.proofs.Common.{sym, ap, ◌∙◌, subst}
 use Rattle.std.specs.List.{flat_map}
 use Rattle.std.proofs.lemmas.List.{take_all}
 use Rattle.areas.specs.Pens.{Puts}
-use Rattle.areas.proofs.Putting.{puts_then, puts_nothing}
+use Rattle.areas.proofs.Putting.{puts_more, puts_nothing}
 use Rattle.file_reader.specs.Grammar.{row_bytes}
-use Rattle.planfile.proofs.RowByRow.{spelled, rows_spelled, row_more}
+use Rattle.planfile.proofs.RowByRow.{spelled, rows_spelled}
 use Rattle.planfile.proofs.telling.put_rows.Goals as goal
 
 pub loop-row-init : goal.loop-row-init
@@ -15,7 +15,7 @@ loop-row-preserved c =
     let rs = c.rows-row-items.result.now in
     let i = c.loop-row.row-index in
     let r = c.row-item.result in
-    subst (λ bs. Puts c.args.pen.now bs c.put_row.new.pen) (sym (row_more rs i r c.loop-row-test.true c.row-item.is)) (puts_then c.loop-row.invariant c.put_row.ensures)
+    puts_more spelled rs i r r c.loop-row-test.true c.row-item.is c.loop-row.invariant c.put_row.ensures
 
 pub returns : goal.returns
 returns c =

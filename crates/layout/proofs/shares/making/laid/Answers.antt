@@ -27,9 +27,9 @@ loop-at-preserved c =
     let r = read_at c.args.plan.now c.packed-bin-items.result.now c.loop-at.at (record { load = 0; reserve = 0 }) c.packed-bin-items.ensures.loads c.packed-bin-items.ensures.reserves (omega arith) in
     elim c.if-at-own.branch [
       | then-at-own w ↦
-          laid_as (ap (λ v. v.items) w.shares-is ∙ w.push.ensures.items) (omega (arith, w.left-is, w.slot.ensures, w.share.ensures)) w.taken-is
-          (laid_own c.loop-at.invariant r w.share.result w.share.ensures.0 w.share.ensures.1 w.if-at-own.true (omega (arith, w.share.ensures, w.slot.ensures)))
+          laid_as (ap (λ v. v.items) w.shares-is ∙ w.push.ensures.items) (omega (arith, w.left-is, w.slot.ensures)) w.taken-is
+          (laid_own c.loop-at.invariant r _ w.if-at-own.true (omega (arith, w.slot.ensures)))
       | else-at-own w ↦
-          laid_as (ap (λ v. v.items) w.shares-is ∙ w.push-else-at-own.ensures.items) w.left-is (omega (arith, w.taken-is, w.share-else-at-own.ensures))
-          (laid_other c.loop-at.invariant r w.share-else-at-own.result w.share-else-at-own.ensures.0 w.share-else-at-own.ensures.1 w.if-at-own.false w.share-else-at-own.ensures.2)
+          laid_as (ap (λ v. v.items) w.shares-is ∙ w.push-else-at-own.ensures.items) w.left-is (omega (arith, w.taken-is))
+          (laid_other c.loop-at.invariant r _ w.if-at-own.false (omega arith))
     ]
