@@ -45,7 +45,7 @@ fn sooner(area: &mut [Booking], a: Booking, b: Booking) -> Option<Booking>
     line.take(0)
 }
 
-// Books a task for a tick, if a slot is free.
+// Books a task for a tick, if a slot is free. Runtime and line go side by side: no plainer as a struct, which would lend both again.
 fn book(rt: &impl Print, line: &mut Line<'_, Booking>, task: u8, tick: u32) -> io::Result<()> {
     match line.put(Booking { tick, task }) {
         Ok(()) => println!(rt; "book task {task} for tick {tick}: booked"),

@@ -30,6 +30,7 @@ fn lab() -> Result<Plan, RowRefusal> {
     Ok(table.close(1, 1))
 }
 
+// Runtime and runner go side by side from here on: no plainer as a struct, which would lend both again.
 // Prints the outstanding list; the deadline of the humidity reading, while it is on it.
 fn show_outstanding<L: Layout>(rt: &impl Print, runner: &Runner<L>) -> io::Result<Option<u32>> {
     let mut slots = [Outstanding {
