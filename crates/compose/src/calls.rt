@@ -32,6 +32,7 @@ impl CallBytes {
         Ok(())
     }
 
+    // The writer takes calls as bytes, and no other program makes them.
     pub(crate) fn push(&mut self, call: Call) -> Result<(), Reason> {
         match call {
             Call::Request { task } => self.put(&[b'R', task]),

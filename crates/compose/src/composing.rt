@@ -3,7 +3,7 @@ use crate::bad_line::BadLine;
 use crate::draft::Draft;
 use std::alloc::Global;
 
-// The bytes of the plan file that a text describes.
+// The bytes of the plan file that a text describes. The loop over lines is plan_report's too, whose reasons are others.
 pub(crate) fn compose(heap: Global, text: &str) -> Result<Vec<u8>, BadLine> {
     let mut draft = Draft::new(heap);
     for (at, line) in text.lines().enumerate() {

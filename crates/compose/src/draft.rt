@@ -18,7 +18,7 @@ pub struct Draft {
     calls: CallBytes,
 }
 
-// The task that has this name, if there is one.
+// The task that has this name, if there is one. By a loop: two of one name are a refusal, and `find` sees one.
 fn named(table: &Table, name: &str) -> Result<Option<u8>, Reason> {
     let mut found = None;
     for (task, row) in (0u8..).zip(table.rows()) {

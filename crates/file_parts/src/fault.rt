@@ -87,7 +87,7 @@ impl Fault {
     }
 }
 
-// What is wrong, in words; number and place are told apart from them.
+// What is wrong, in words; number and place are told apart from them. Four are said by `plan` too, which this crate does not know.
 impl fmt::Display for Fault {
     ghost output = { λ fault. Some (fault_words fault) };
 

@@ -34,7 +34,7 @@ impl NotWritten {
         }
     }
 
-    // The byte of the calls that is at fault, or 0.
+    // The byte of the calls that is at fault, or 0, as it is reported.
     pub fn place(self) -> usize
         ensures { result ≡ refusal_place self }
     {

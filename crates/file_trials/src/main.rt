@@ -11,6 +11,7 @@ use std::io::Read;
 use std::process::ExitCode;
 use trials::{Answer, reading, writing};
 
+// As in plan_report, but for the trimming: a crate for one line is no plainer.
 fn word(line: &str) -> (&str, &str) {
     line.split_once(' ').unwrap_or((line, ""))
 }

@@ -16,7 +16,7 @@ pub trait Layout {
     fn shortest(&self) -> u32
         ensures { result ≡ (meaning self.now).shortest };
 
-    // The load of a bin in millionths, 0 where there is no such bin.
+    // The load of a bin in millionths, 0 where there is no such bin, and no None: the laws are of a load, and one that is not there is 0.
     fn load(&self, bin: u8) -> u32
         ensures { result ≡ (meaning self.now).load bin };
 

@@ -24,7 +24,8 @@ impl ShortArea {
     }
 }
 
-// How long a line is: it is put where nothing fits, and the bytes are counted.
+// How long a line is: it is put where nothing fits, and the bytes are counted. As in planfile: a public function that measured any telling
+// would have to require that it may be called.
 fn measured(line: Line) -> usize
     ensures is { result ≡ min (length (text line.entry)) (2 ^ 64 - 1) }
     ensures short { Short 80 line.entry }

@@ -15,7 +15,7 @@ pub struct Booking {
     pub task: u8,
 }
 
-// Bookings go by tick, and those of one tick by task.
+// Bookings go by tick, and those of one tick by task. Each kind of record has its own fields to go by, so each has its own order.
 impl Ranked for Booking {
     ghost less = { earlier };
 

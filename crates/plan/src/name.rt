@@ -46,6 +46,7 @@ impl Name {
             return Err(RowRefusal::NameLength);
         }
         let mut text = ArrayString::new();
+        // One walk: the byte at fault, and the text that is pushed.
         for (at, byte) in bytes.iter().enumerate() {
             if !is_printable(*byte) {
                 return Err(RowRefusal::NameByte { at: at as u8 });

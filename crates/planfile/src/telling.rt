@@ -49,7 +49,7 @@ fn put_head(pen: &mut Pen, kind: SectionKind, len: u16)
     pen.put(&[kind.letter(), high, low]);
 }
 
-// Header, table and, where there are some, calls.
+// Header, table and, where there are some, calls. The three go side by side, as the public `write` takes them.
 pub(crate) fn put_file(pen: &mut Pen, table: &Table, settings: Settings, calls: &[u8])
     requires { length calls.now ≤ 65535 }
     ensures { Puts pen.old (written settings (tasks table.now) calls.now) pen.new }

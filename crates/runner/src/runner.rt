@@ -14,7 +14,7 @@ mod questions;
 pub struct Runner<L> {
     plan: Plan,
     layout: L,
-    // 0 where the layout does not fit.
+    // 0 where the layout does not fit, and no Option: such a runner takes every call too.
     tasks: u8,
     clock: u32,
     jobs: Jobs,

@@ -28,7 +28,7 @@ impl Dedicated {
         if plan.verdict().is_err() || plan.bins() > plan.processors() {
             return Err(NotMade);
         }
-        // By a loop that pushes: `collect` wants an allocator, and there is no heap here.
+        // Pushed one by one: `extend` answers an error for a vector that is full, which cannot happen here.
         let mut loads = ArrayVec::new();
         for bin in plan.packed() {
             loads.push(bin.load);
@@ -40,7 +40,7 @@ impl Dedicated {
         })
     }
 
-    // Makes this place the dedicated layout of a plan, or where the plan has none, the empty layout.
+    // Makes this place the dedicated layout of a plan, or where the plan has none, the empty layout. See `Flat::fill`.
     pub fn fill(&mut self, plan: &Plan) -> Result<(), NotMade>
         ensures { Filled Spacious dedicated_of (planned plan.now) result (dedicated_view self.new) }
     {

@@ -32,7 +32,7 @@ impl Semi {
         })
     }
 
-    // Makes this place the semi-partitioned layout of a plan, or where the plan has none, the empty layout.
+    // Makes this place the semi-partitioned layout of a plan, or where the plan has none, the empty layout. See `Flat::fill`.
     pub fn fill(&mut self, plan: &Plan) -> Result<(), NotMade>
         ensures { Filled Roomy semi_of (planned plan.now) result (semi_view self.new) }
     {

@@ -32,6 +32,7 @@ impl Layout for Semi {
 
     ghost supply = { λ x. let s = x.shares in semi_supply s.slot s.processors s.delta s.shortest (reserved s) (weights s) s.fit (carry s) };
 
+    // See `Flat` for these four.
     fn processors(&self) -> u8 {
         self.shares.processors
     }

@@ -21,7 +21,7 @@ fn laid(plan: &Plan, own: u8) -> ArrayVec<Share, ROWS>
     ensures starts { (p : ℕ) → p < array_vec_len result → slice_index (map start_of result.items) p ≡ semi_start (planned plan.now).slot own (planned plan.now).reserves p }
     ensures near { (p : ℕ) → slice_index (map start_of result.items) p ≤ 64000000 }
 {
-    // By a loop that pushes: `collect` wants an allocator, and there is no heap here.
+    // Pushed one by one: `extend` answers an error for a vector that is full, which cannot happen here.
     let mut shares = ArrayVec::new();
     let mut left = 0;
     let mut taken = 0;

@@ -39,7 +39,8 @@ impl<'a, T: Ranked + Copy> Line<'a, T> {
         &self.slots[..self.count]
     }
 
-    // Puts a record in after its equals; refused where no slot is free.
+    // Puts a record in after its equals; refused where no slot is free. `slots` stands on each call that alters the line: it is of the line
+    // before and after, which no field of one line can tell.
     pub fn put(&mut self, x: T) -> Result<(), LineRefusal>
         ensures slots { SameSlots self.old self.new }
         ensures put { Put x self.old self.new result }

@@ -72,7 +72,7 @@ fn bins(cut: Cut, loads: &ArrayVec<u32, ROWS>) -> ArrayVec<Bin, ROWS>
     ensures loads { map load_of result.items ≡ loads.now.items }
     ensures reserves { map reserve_in result.items ≡ map (reserve_of cut.slot cut.delta) loads.now.items }
 {
-    // Pushed one by one: `collect` wants an allocator, and there is no heap here.
+    // Pushed one by one: `extend` answers an error for a vector that is full, which cannot happen here.
     let mut bins = ArrayVec::new();
     for load in loads.iter() {
         bins.push(Bin {

@@ -117,7 +117,7 @@ impl Plan {
         self.bins.iter().map(|bin| bin.reserve).sum()
     }
 
-    // The shortest period of the table, 0 where it has no rows.
+    // The shortest period of the table, 0 where it has no rows. 0 and no Option, as for the slot: the rules have these numbers of every plan.
     pub fn shortest(&self) -> u32
         ensures { result ≡ (planned self.now).shortest }
     {
