@@ -37,3 +37,7 @@ ReadsBack h ts calls (Err e) = Unit {0}
 -- a file without notes that holds these settings, tasks and calls is, byte for byte, the file that is written
 abbrev pub SameBytes : Settings → List Task → List ℕ → Type 0
 SameBytes h ts calls = (f : List ℕ) → Means f (acceptance h ts calls false) → f ≡ written h ts calls
+
+-- what an accepted file without notes holds is written, where the area has room for it, and is that file
+abbrev pub ComesBack : Settings → List Task → List ℕ → List ℕ → List ℕ → Result ℕ NotWritten → Type 0
+ComesBack h ts calls area area' r = (f : List ℕ) → Means f (acceptance h ts calls false) → length calls ≤ 65535 → length f ≤ length area → (r ≡ Ok (length f)) × (area' ≡ f ++ drop (length f) area)

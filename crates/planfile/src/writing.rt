@@ -2,7 +2,7 @@
 ghost use Rattle.std.specs.Prelude.{◌≡◌, ◌≤◌, length, MatchResult};
 ghost use Rattle.plan.specs.Views.{tasks};
 ghost use Rattle.file_reader.specs.Meaning.{written};
-ghost use Rattle.planfile.specs.Writing.{WrittenOrNot, ReadsBack, SameBytes};
+ghost use Rattle.planfile.specs.Writing.{WrittenOrNot, ReadsBack, SameBytes, ComesBack};
 ghost use Rattle.file_reader.specs.Readers.{CallsWhole, CallsBroken};
 
 use crate::telling::put_file;
@@ -43,6 +43,7 @@ pub fn write(
     ensures written { WrittenOrNot settings (tasks table.now) calls.now area.old area.new result }
     ensures back { ReadsBack settings (tasks table.now) calls.now result }
     ensures again { SameBytes settings (tasks table.now) calls.now }
+    ensures returns { ComesBack settings (tasks table.now) calls.now area.old area.new result }
 {
     if !names_layout(settings.letter) {
         return Err(NotWritten::Letter);

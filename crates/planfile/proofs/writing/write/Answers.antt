@@ -5,41 +5,44 @@ use Rattle.areas.specs.Areas.{placed}
 use Rattle.file_reader.specs.Grammar.{layout_letter}
 use Rattle.file_reader.specs.Meaning.{acceptance, written}
 use Rattle.file_reader.specs.Readers.{CallsWhole}
-use Rattle.planfile.specs.Writing.{IsNotWritten}
-use Rattle.planfile.proofs.FileWritten.{whole_read, same_bytes}
+use Rattle.planfile.specs.Writing.{IsNotWritten, Wrote}
+use Rattle.planfile.proofs.FileWritten.{whole_read, same_bytes, comes_back}
 use Rattle.file_reader.proofs.GoodRows.{tasks_taken}
 use Rattle.file_reader.proofs.OneMeaning.{only}
 use Rattle.planfile.proofs.writing.write.Goals as goal
 
 pub returns-then-not-names_layout : goal.returns-then-not-names_layout
-returns-then-not-names_layout c = record { written = (IsNotWritten.letter (sym c.if-not-names_layout.ensures), search rules); back = tt; again = same_bytes c.args.settings (tasks c.args.table.now) c.args.calls.now }
+returns-then-not-names_layout c =
+    let h = c.args.settings in
+    let ts = tasks c.args.table.now in
+    let calls = c.args.calls.now in
+    let why = IsNotWritten.letter (sym c.if-not-names_layout.ensures) in
+    record { written = (why, search rules); back = tt; again = same_bytes h ts calls; returns = comes_back h ts calls c.args.area.now _ _ (why, search rules) }
 
 pub returns-in_err-test_calls : goal.returns-in_err-test_calls
 returns-in_err-test_calls c =
+    let h = c.args.settings in
+    let ts = tasks c.args.table.now in
+    let calls = c.args.calls.now in
     let r = err_from_is_err_and c.from_residual.result c.from_residual.ensures.1 in
-    rw (r.1, r.2) (record {
-      written = (IsNotWritten.calls_at_fault c.in_err-test_calls.field-0.0 (sym c.if-not-names_layout.ensures) c.in_err-test_calls.ensures, search rules);
-      back = tt;
-      again = same_bytes c.args.settings (tasks c.args.table.now) c.args.calls.now;
-    })
+    let why = IsNotWritten.calls_at_fault c.in_err-test_calls.field-0.0 (sym c.if-not-names_layout.ensures) c.in_err-test_calls.ensures in
+    rw (r.1, r.2) (record { written = (why, search rules); back = tt; again = same_bytes h ts calls; returns = comes_back h ts calls c.args.area.now _ _ (why, search rules) })
 
 pub returns-then-calls-gt-LONGEST_CALLS : goal.returns-then-calls-gt-LONGEST_CALLS
-returns-then-calls-gt-LONGEST_CALLS c = record {
-  written = (IsNotWritten.long_calls (sym c.if-not-names_layout.ensures) c.in_ok-test_calls.ensures c.if-calls-gt-LONGEST_CALLS.true, search rules);
-  back = tt;
-  again = same_bytes c.args.settings (tasks c.args.table.now) c.args.calls.now;
-}
+returns-then-calls-gt-LONGEST_CALLS c =
+    let h = c.args.settings in
+    let ts = tasks c.args.table.now in
+    let calls = c.args.calls.now in
+    let why = IsNotWritten.long_calls (sym c.if-not-names_layout.ensures) c.in_ok-test_calls.ensures c.if-calls-gt-LONGEST_CALLS.true in
+    record { written = (why, search rules); back = tt; again = same_bytes h ts calls; returns = comes_back h ts calls c.args.area.now _ _ (why, search rules) }
 
 pub returns-then-area-len : goal.returns-then-area-len
 returns-then-area-len c =
     let h = c.args.settings in
     let ts = tasks c.args.table.now in
     let calls = c.args.calls.now in
-    record {
-      written = (IsNotWritten.short_area (sym c.if-not-names_layout.ensures) c.in_ok-test_calls.ensures c.if-calls-gt-LONGEST_CALLS.false (omega (arith, c.measured-len.ensures, c.if-area-len.true)), search rules);
-      back = tt;
-      again = same_bytes h ts calls;
-    }
+    let why = IsNotWritten.short_area (sym c.if-not-names_layout.ensures) c.in_ok-test_calls.ensures c.if-calls-gt-LONGEST_CALLS.false (omega (arith, c.measured-len.ensures, c.if-area-len.true)) in
+    record { written = (why, search rules); back = tt; again = same_bytes h ts calls; returns = comes_back h ts calls c.args.area.now _ _ (why, search rules) }
 
 pub returns : goal.returns
 returns c =
@@ -57,15 +60,12 @@ returns c =
     ∙ ap (λ n. placed area n w) c.new-pen.ensures.none
     ∙ ap (λ n. w ++ drop n area) (let n : 0 + length w ≡ c.measured-len.result = omega (arith, c.measured-len.ensures) in n) in
     let means = whole_read h ts calls letter (tasks_taken c.args.table.now) whole in
-    record {
-      written = record {
-        letter = letter;
-        whole = whole;
-        short = c.if-calls-gt-LONGEST_CALLS.false;
-        long = c.measured-len.ensures;
-        room = c.if-area-len.false;
-        bytes = search (rules, out);
-      };
-      back = (means, only (written h ts calls) (acceptance h ts calls false) means);
-      again = same_bytes h ts calls;
-    }
+    let wrote : Wrote h ts calls area _ c.measured-len.result = record {
+      letter = letter;
+      whole = whole;
+      short = c.if-calls-gt-LONGEST_CALLS.false;
+      long = c.measured-len.ensures;
+      room = c.if-area-len.false;
+      bytes = search (rules, out);
+    } in
+    record { written = wrote; back = (means, only (written h ts calls) (acceptance h ts calls false) means); again = same_bytes h ts calls; returns = comes_back h ts calls area _ _ wrote }
