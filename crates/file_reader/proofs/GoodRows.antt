@@ -1,15 +1,15 @@
 -- Rows that a table takes: what their names and numbers are, and how long they are in a file.
 use Rattle.std.proofs.Common.{◌≡◌, ℕ, suc, ◌+◌, ◌*◌, ◌<◌, ◌≤◌, Bool, true, false, cond, eqb, ltb, List, [], ◌∷◌, length, Some, None, Option, sym, refl, ap, ◌∙◌, ⊎_elim, arith}
 use Rattle.std.specs.List.{flat_map, slice_get}
-use Rattle.std.proofs.lemmas.List.{length-append, length-map}
+use Rattle.std.proofs.lemmas.List.{length-append}
 use Rattle.std.proofs.lemmas.Bool.{cases_Bool, or_parts, ltb-true, ltb-false, eqb-false, lt-ltb, le-ltb, ne_eqb, cond-true, cond-false}
 use Rattle.plan.specs.declared.refusal.RowRefusal.{RowRefusal}
 use Rattle.plan.specs.declared.refusal.RowRefusal.TheVariants.{BudgetAbovePeriod, TableFull}
 use Rattle.plan.specs.declared.table.Table.{Table}
 use Rattle.plan.specs.Rows.{Task, name_refusal, number_refusal, first_of}
 use Rattle.plan.specs.Laws.{GoodRow}
-use Rattle.plan.specs.Views.{task_of, tasks}
-use Rattle.plan.proofs.Rowing.{rows_kept}
+use Rattle.plan.specs.Views.{tasks}
+use Rattle.plan.proofs.Rowing.{tasks_count, rows_kept}
 use Rattle.file_reader.specs.Grammar.{Taken, row_bytes}
 use Rattle.file_reader.specs.Faults.{refused}
 use Rattle.file_reader.proofs.InTurn.{RowsAfter, taken_rows, rows_taken}
@@ -68,4 +68,4 @@ all_accepted k [] l g = tt
 all_accepted k (t ∷ ts) l g = (accepted t k (g 0 t refl) (omega arith), all_accepted (k + 1) ts (omega arith) (λ i u e. g (suc i) u e))
 
 pub tasks_taken : (t : Table) → Taken (tasks t)
-tasks_taken t = rows_taken [] (tasks t) Taken.none (all_accepted 0 (tasks t) (omega (arith, length-map t.rows.items task_of, t.few)) (rows_kept t))
+tasks_taken t = rows_taken [] (tasks t) Taken.none (all_accepted 0 (tasks t) (omega (arith, tasks_count t, t.few)) (rows_kept t))

@@ -34,6 +34,10 @@ module _ (c : ℕ) where
   put_longer [] = omega arith
   put_longer (w ∷ ws) = elim (leb (w + c) full) as (λ b. suc (length ws) ≤ length (cond b ((w + c) ∷ ws) (w ∷ put c ws))) [ true ↦ omega arith | false ↦ omega (arith, put_longer ws) ]
 
+  pub put_short : (ws : List ℕ) → length (put c ws) ≤ suc (length ws)
+  put_short [] = omega arith
+  put_short (w ∷ ws) = elim (leb (w + c) full) as (λ b. length (cond b ((w + c) ∷ ws) (w ∷ put c ws)) ≤ suc (suc (length ws))) [ true ↦ omega arith | false ↦ omega (arith, put_short ws) ]
+
   pub put_only : (ws : List ℕ) (p : ℕ) → p < length (put c ws) → (p < length ws) ⊎ (p ≡ place c ws)
   put_only [] p h = inr (omega arith)
   put_only (w ∷ ws) p h =

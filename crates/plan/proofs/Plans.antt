@@ -15,7 +15,7 @@ use Rattle.plan.specs.Laws.{GoodRow, GoodPlan, Lawful}
 use Rattle.plan.specs.Plans.{planned}
 use Rattle.plan.specs.Views.{task_of, tasks}
 use Rattle.plan.proofs.Keeping.{good_or_not, lawful}
-use Rattle.plan.proofs.Rowing.{rows_kept}
+use Rattle.plan.proofs.Rowing.{rows_kept, tasks_count}
 
 -- plans that agree in every part are equal
 alike : (ts : List Task) (m δ : ℕ) {v v' : Verdict} {T T' S S' : ℕ} {bs bs' ws ws' rs rs' : List ℕ} → v ≡ v' → T ≡ T' → S ≡ S' → bs ≡ bs' → ws ≡ ws' → rs ≡ rs' → ◌≡◌ {A = Planned} (record { tasks = ts; processors = m; delta = δ; verdict = v; shortest = T; slot = S; bins = bs; loads = ws; reserves = rs }) (record { tasks = ts; processors = m; delta = δ; verdict = v'; shortest = T'; slot = S'; bins = bs'; loads = ws'; reserves = rs' })
@@ -27,7 +27,7 @@ planned_is p = alike (tasks p.table) p.processors p.delta p.judged p.least p.cut
 pub plan_lawful : (p : Plan) → Lawful (planned p)
 plan_lawful p =
     let t = p.table in
-    subst Lawful (sym (planned_is p)) (lawful (tasks t) (rows_kept t) p.processors p.delta (omega (arith, length-map t.rows.items task_of, t.few)))
+    subst Lawful (sym (planned_is p)) (lawful (tasks t) (rows_kept t) p.processors p.delta (omega (arith, tasks_count t, t.few)))
 
 -- a plan over this table for these settings is what closing the table gives
 pub closes : (p : Plan) (t : Table) (m δ : ℕ) → p.table ≡ t → p.processors ≡ m → p.delta ≡ δ → planned p ≡ closed (tasks t) m δ

@@ -4,7 +4,7 @@ ghost use Rattle.plan.specs.Rows.{printable, name_refusal};
 
 use crate::refusal::RowRefusal;
 use arrayvec::ArrayString;
-use std::fmt;
+use std::{fmt, str};
 
 // The longest name.
 pub const NAME_BYTES: usize = 16;
@@ -32,7 +32,7 @@ impl fmt::Display for Name {
 
 impl Name {
     // For a row that stands for none.
-    pub(crate) fn blank() -> Name {
+    pub(crate) fn vacant() -> Name {
         let mut text = ArrayString::new();
         text.push('-');
         Name { text }
@@ -45,14 +45,17 @@ impl Name {
         if bytes.is_empty() || bytes.len() > NAME_BYTES {
             return Err(RowRefusal::NameLength);
         }
-        let mut text = ArrayString::new();
-        // One walk: the byte at fault, and the text that is pushed.
         for (at, byte) in bytes.iter().enumerate() {
             if !is_printable(*byte) {
                 return Err(RowRefusal::NameByte { at: at as u8 });
             }
-            text.push(char::from(*byte));
         }
+        // Printable bytes are text. Pushed all at once: letter by letter, each is encoded and copied by itself.
+        let Ok(letters) = str::from_utf8(bytes) else {
+            unreachable!()
+        };
+        let mut text = ArrayString::new();
+        text.push_str(letters);
         Ok(Name { text })
     }
 

@@ -6,7 +6,6 @@ ghost use Rattle.plan.specs.Method.{full, up};
 use crate::FULL;
 use crate::name::Name;
 use crate::refusal::RowRefusal;
-use std::default::MadeWith;
 
 // The longest period, in ticks.
 pub const LONGEST_PERIOD: u32 = 1_000_000;
@@ -21,20 +20,6 @@ pub struct Row {
     ghost some: { 1 ≤ budget },
     ghost room: { budget ≤ period },
     ghost short: { period ≤ 1000000 },
-}
-
-// What a table's places that have no row are filled with. Nobody outside can name it, so no row is to be had but from a table.
-#[derive(Clone, Copy)]
-pub(crate) struct Blank;
-
-impl MadeWith<Blank> for Row {
-    fn made_with(_blank: Blank) -> Row {
-        Row {
-            budget: 1,
-            period: 1,
-            name: Name::blank(),
-        }
-    }
 }
 
 impl Row {
@@ -55,6 +40,15 @@ impl Row {
             period,
             name,
         })
+    }
+
+    // For places of a table that hold no row yet.
+    pub(crate) fn vacant() -> Row {
+        Row {
+            budget: 1,
+            period: 1,
+            name: Name::vacant(),
+        }
     }
 
     // The share of a processor that the task needs, in millionths, rounded up.

@@ -1,9 +1,7 @@
 // The task table, open for rows.
-ghost use Rattle.std.specs.Prelude.{◌≤◌};
-ghost use Rattle.arrayvec.specs.ArrayVec.{array_vec_len};
+ghost use Rattle.std.specs.Prelude.{◌≡◌, ◌≤◌, length};
 
-use crate::row::{Blank, Row};
-use arrayvec::ArrayVec;
+use crate::row::Row;
 
 mod calls;
 mod figures;
@@ -13,9 +11,12 @@ mod questions;
 pub const ROWS: usize = 64;
 
 // Rows in the order in which they came. Memory is fixed: a controller must not fail for want of it.
+// An array with a count, and no vector of fixed capacity: a vector's value ends with its items, so that a refused row could alter the places
+// past them, and emptying it writes a blank over each row.
 #[derive(Drop)]
 pub struct Table {
-    rows: ArrayVec<Row, ROWS, Blank>,
-    // Stated, since a clause does not see a vector's capacity.
-    ghost few: { array_vec_len rows ≤ 64 },
+    rows: [Row; ROWS],
+    count: u8,
+    ghost wide: { length rows ≡ 64 },
+    ghost few: { count ≤ 64 },
 }

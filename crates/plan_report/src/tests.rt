@@ -5,10 +5,12 @@ use std::test::Fail;
 
 // The first line at fault, and the number of its refusal, which a line that is not of the form has not.
 fn fault_in(text: &str) -> Option<(usize, Option<u8>)> {
-    let bad = table_of(text).err()?;
-    match bad.fault {
-        Fault::Form => Some((bad.line, None)),
-        Fault::Row(refusal) => Some((bad.line, Some(refusal.number()))),
+    match table_of(text) {
+        Ok(_) => None,
+        Err(bad) => match bad.fault {
+            Fault::Form => Some((bad.line, None)),
+            Fault::Row(refusal) => Some((bad.line, Some(refusal.number()))),
+        },
     }
 }
 

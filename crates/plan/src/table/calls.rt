@@ -3,11 +3,10 @@ ghost use Rattle.std.specs.Prelude.{◌≡◌, [], ◌∷◌, ◌++◌, length, 
 ghost use Rattle.plan.specs.Rows.{row_refusal};
 ghost use Rattle.plan.specs.Views.{tasks};
 
-use super::Table;
+use super::{ROWS, Table};
 use crate::name::Name;
 use crate::refusal::RowRefusal;
-use crate::row::{Blank, Row};
-use arrayvec::ArrayVec;
+use crate::row::Row;
 
 impl Table {
     // A table without rows.
@@ -15,20 +14,23 @@ impl Table {
         ensures { tasks result ≡ [] }
     {
         Table {
-            rows: ArrayVec::new_in(Blank),
+            rows: [Row::vacant(); ROWS],
+            count: 0,
         }
     }
 
-    // One more row at the end. A refused row leaves the table as it was.
+    // One more row at the end. A refused row leaves the table as it was, places past the last row included.
     pub fn add(&mut self, budget: u32, period: u32, name: &[u8]) -> Result<(), RowRefusal>
         ensures { MatchResult result (λ _. (row_refusal budget period name.now (length (tasks self.old)) ≡ None) × (tasks self.new ≡ tasks self.old ++ record { budget = budget; period = period; name = name.now } ∷ [])) (λ e. (row_refusal budget period name.now (length (tasks self.old)) ≡ Some e) × (self.new ≡ self.old)) }
     {
         let name = Name::new(name)?;
         let row = Row::new(budget, period, name)?;
-        if self.rows.is_full() {
+        let at = self.count as usize;
+        if at >= ROWS {
             return Err(RowRefusal::TableFull);
         }
-        self.rows.push(row);
+        self.rows[at] = row;
+        self.count += 1;
         Ok(())
     }
 
@@ -36,6 +38,6 @@ impl Table {
     pub fn clear(&mut self)
         ensures { tasks self.new ≡ [] }
     {
-        self.rows.clear();
+        self.count = 0;
     }
 }

@@ -26,7 +26,7 @@ impl Table {
     {
         // Tried as `map` and `min`: the proof did not close, which has to take the run of the chain back to the rows.
         let mut least = 0;
-        for row in self.rows.iter() {
+        for row in self.rows() {
             least = shorter(least, row.period());
         }
         least
@@ -37,7 +37,7 @@ impl Table {
         ensures { Packs (charges_of (tasks self.now)) result }
     {
         let mut packing = Packing::new();
-        for row in self.rows.iter() {
+        for row in self.rows() {
             packing.put(row.charge());
         }
         packing

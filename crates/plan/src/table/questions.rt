@@ -12,20 +12,20 @@ impl Table {
     pub fn count(&self) -> u8
         ensures { result ≡ length (tasks self.now) }
     {
-        self.rows.len() as u8
+        self.count
     }
 
     // The rows, in order.
     pub fn rows(&self) -> &[Row]
         ensures { map task_of result.now ≡ tasks self.now }
     {
-        self.rows.as_slice()
+        &self.rows[..self.count as usize]
     }
 
     // The row of a task, or none where there is no such task.
     pub fn row(&self, task: u8) -> Option<Row>
         ensures { option_map task_of result ≡ slice_get (tasks self.now) task }
     {
-        self.rows.get(task as usize).copied()
+        self.rows().get(task as usize).copied()
     }
 }
