@@ -32,7 +32,7 @@ over less o x y z a b =
 -- the step from the first n records to one more, the record x at n
 module _ {X : Type 0} (less : X → X → Bool) (mark : X → Option ℕ) (o : IsStrictWeakOrder less) (m : ℕ) (xs : List X) (n : ℕ) (x : X) (here : (d : X) → x ≡ get_or xs n d) where
   -- x does not bear the mark
-  skip : (r : Option ℕ) → (mark x ≡ Some m → ⊥) → Picked less mark m xs n r → Picked less mark m xs (n + 1) r
+  pub skip : (r : Option ℕ) → (mark x ≡ Some m → ⊥) → Picked less mark m xs n r → Picked less mark m xs (n + 1) r
   skip None other h = λ k d l. below_more (λ j. mark (get_or xs j d) ≡ Some m → ⊥) n (λ j l'. h j d l') (λ e. other (ap mark (here d) ∙ e)) k l
   skip (Some b) other h = record {
     inside = let i = h.inside in omega arith;
@@ -51,12 +51,12 @@ module _ {X : Type 0} (less : X → X → Bool) (mark : X → Option ℕ) (o : I
   }
 
   -- x is the first to bear it
-  begin : mark x ≡ Some m → Picked less mark m xs n None → Picked less mark m xs (n + 1) (Some n)
+  pub begin : mark x ≡ Some m → Picked less mark m xs n None → Picked less mark m xs (n + 1) (Some n)
   begin has h = takes has (λ k d l e. elim (h k d l e) [ ])
 
   -- x bears it, and so does y, the best so far, which stands at b
   module _ (b : ℕ) (y : X) (there : (d : X) → y ≡ get_or xs b d) (h : Picked less mark m xs n (Some b)) where
-    keep : less x y ≡ false → Picked less mark m xs (n + 1) (Some b)
+    pub keep : less x y ≡ false → Picked less mark m xs (n + 1) (Some b)
     keep late = record {
       inside = let i = h.inside in omega arith;
       bearing = h.bearing;
@@ -64,7 +64,7 @@ module _ {X : Type 0} (less : X → X → Bool) (mark : X → Option ℕ) (o : I
       first = h.first;
     }
 
-    change : mark x ≡ Some m → less x y ≡ true → Picked less mark m xs (n + 1) (Some n)
+    pub change : mark x ≡ Some m → less x y ≡ true → Picked less mark m xs (n + 1) (Some n)
     change has lt = takes has (λ k d l e. over less o x (get_or xs k d) y lt (ap (less (get_or xs k d)) (there d) ∙ h.least k d l e))
 
 -- the pick as a chain makes it: the records are numbered, those that bear m are left, and of two the nearer one stays

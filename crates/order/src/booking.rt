@@ -22,7 +22,8 @@ impl Ranked for Booking {
     ghost ranks = { Prim.search rules };
 
     fn before(&self, other: &Booking) -> bool {
-        (self.tick, self.task) < (other.tick, other.task)
+        // Spelled out: as pairs it took half as long again to pick the earliest.
+        self.tick < other.tick || self.tick == other.tick && self.task < other.task
     }
 }
 

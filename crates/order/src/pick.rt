@@ -9,10 +9,15 @@ pub fn least<T: Ranked + Marked>(records: &[T], mark: u8) -> Option<usize>
     ensures picked { Picked T.less T.marking mark records.now (length records.now) result }
     ensures only { (o : Option ℕ) → Picked T.less T.marking mark records.now (length records.now) o → o ≡ result }
 {
-    records
-        .iter()
-        .enumerate()
-        .filter(|(_, x)| x.mark() == Some(mark))
-        .reduce(|best, next| if next.1.before(best.1) { next } else { best })
-        .map(|(place, _)| place)
+    // A loop: a chain with closures (`enumerate`, `filter`, `reduce`, `map`) took twice the time.
+    let mut best = None;
+    for (place, x) in records.iter().enumerate() {
+        if matches!(x.mark(), Some(own) if own == mark) {
+            best = match best {
+                None => Some(place),
+                Some(b) => Some(if x.before(&records[b]) { place } else { b }),
+            };
+        }
+    }
+    best
 }

@@ -30,6 +30,6 @@ impl Marked for Job {
     ghost marking = { to_run };
 
     fn mark(&self) -> Option<u8> {
-        (self.left > 0).then_some(self.bin)
+        if self.left == 0 { None } else { Some(self.bin) }
     }
 }

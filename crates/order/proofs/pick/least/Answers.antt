@@ -1,22 +1,49 @@
-use Rattle.std.proofs.Common.{◌≡◌, length, filter, rules, sym, ap, ◌∙◌, subst}
-use Rattle.std.specs.List.{enumerate_from, reduce}
-use Rattle.std.specs.Option.{option_map}
-use Rattle.std.proofs.lemmas.Iterator.{YieldsList-from_slice}
-use Rattle.std.proofs.lemmas.Iterator.Consumers.{YieldsList-at, YieldsList-from_enumerate, YieldsList-from_filter}
+use Rattle.std.proofs.Common.{◌≡◌, ℕ, ◌+◌, length, true, false, Some, Option, rules, sym, ◌∙◌, subst, arith}
+use Rattle.std.proofs.lemmas.List.{get_or_read}
 use Rattle.order.specs.Picks.{Picked}
-use Rattle.order.proofs.Picking.{nearer, bearer, number_stays, reduces, chain_picks, picked_once}
+use Rattle.order.proofs.Picking.{begin, change, keep, skip, picked_once}
 use Rattle.order.proofs.pick.least.Goals as goal
+use Rattle.order.proofs.pick.least.Goals.{then-matches+in-None, then-matches+in-Some-best+then-before, then-matches+in-Some-best+else-before, else-matches}
 
-pub returns : goal.returns
-returns g c =
+pub loop-place-preserved : goal.loop-place-preserved
+loop-place-preserved g c =
+    let less = g.T.Ranked.less in
+    let mark = g.T.Marked.marking in
+    let o = g.met.T.Ranked.ranks in
+    let m = c.args.mark in
+    let xs = c.args.records.now in
+    let n = c.loop-place.place in
+    let x = c.index-records-place.result in
+    let here = get_or_read xs n x (omega arith) c.index-records-place.is in
+    let has : c.match-matches.matches ≡ true → mark x ≡ Some m = search rules in
+    let other : c.match-matches.matches ≡ false → mark x ≡ Some m → ⊥ = search rules in
+    let Was : Option ℕ → Type 0 = Picked less mark m xs n in
+    let Is : Option ℕ → Type 0 = Picked less mark m xs (n + 1) in
+    elim c.if-matches.branch [
+      | then-matches+in-None w ↦
+          subst Is (sym w.best-is) (begin less mark o m xs n x here (has w.if-matches.true) (subst Was w.in-None.is c.loop-place.invariant))
+      | then-matches+in-Some-best+then-before w ↦
+          let b = w.in-Some-best.b in
+          let y = w.index-records-b.result in
+          let h = subst Was w.in-Some-best.is c.loop-place.invariant in
+          let there = get_or_read xs b y (omega (arith, h.inside)) w.index-records-b.is in
+          let nearer : less x y ≡ true = sym w.before-in-Some-best.ensures ∙ w.if-before.true in
+          subst Is (sym w.best-is) (change less mark o m xs n x here b y there h (has w.if-matches.true) nearer)
+      | then-matches+in-Some-best+else-before w ↦
+          let b = w.in-Some-best.b in
+          let y = w.index-records-b.result in
+          let h = subst Was w.in-Some-best.is c.loop-place.invariant in
+          let there = get_or_read xs b y (omega (arith, h.inside)) w.index-records-b.is in
+          let later : less x y ≡ false = sym w.before-in-Some-best.ensures ∙ w.if-before.false in
+          subst Is (sym w.best-is) (keep less mark o m xs n x here b y there h later)
+      | else-matches w ↦ subst Is (sym w.best-is) (skip less mark o m xs n x here c.loop-place.best (other w.if-matches.false) c.loop-place.invariant)
+    ]
+
+pub returns-clause-only : goal.returns-clause-only
+returns-clause-only g c =
     let less = g.T.Ranked.less in
     let mark = g.T.Marked.marking in
     let m = c.args.mark in
     let xs = c.args.records.now in
-    let chain : option_map (λ p. (p.0, p.1.now)) c.reduce.result ≡ reduce (nearer less) (filter (bearer mark m) (enumerate_from 0 xs)) =
-    reduces (λ p. (p.0, p.1.now)) _ (nearer less) _ (λ a x b q k. search rules) c.reduce.result c.reduce.ensures.ran
-    (YieldsList-from_filter _ (bearer mark m) (YieldsList-at c.filter.ensures.source (YieldsList-from_enumerate (YieldsList-at c.enumerate.ensures.source (YieldsList-from_slice xs cc)) cc)) c.filter.ensures.closure (λ x b q k. search rules)) in
-    let place : c.map.result ≡ option_map (λ p. p.0) c.reduce.result = search rules in
-    let same = place ∙ number_stays (λ x. x.now) c.reduce.result ∙ ap (option_map (λ p. p.0)) chain in
-    let picked = subst (Picked less mark m xs (length xs)) (sym same) (chain_picks less mark g.met.T.Ranked.ranks m xs) in
-    record { picked = picked; only = λ o q. picked_once less mark m xs o c.map.result q picked }
+    let end : c.loop-place.place ≡ length xs = omega arith in
+    λ o q. picked_once less mark m xs o c.loop-place.best q (subst (λ n. Picked less mark m xs n c.loop-place.best) end c.loop-place.invariant)
