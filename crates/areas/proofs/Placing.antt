@@ -1,6 +1,6 @@
 -- Bytes placed in an area, one piece after the other.
-use Rattle.std.proofs.Common.{◌≡◌, ℕ, ◌+◌, ◌≤◌, List, [], ◌++◌, length, take, drop, sym, ap, ◌∙◌, arith}
-use Rattle.std.proofs.lemmas.List.{append_assoc, length-append, length-take-le, take_at, drop_at, drop-drop, append-nil, take-append-drop}
+use Rattle.std.proofs.Common.{◌≡◌, ℕ, ◌+◌, ◌≤◌, List, [], ◌∷◌, ◌++◌, length, get_or, take, drop, set, sym, ap, ◌∙◌, arith}
+use Rattle.std.proofs.lemmas.List.{append_assoc, length-append, length-take-le, take_at, drop_at, drop-drop, append-nil, take-append-drop, take_more, set_at}
 use Rattle.areas.specs.Areas.{placed}
 
 -- one piece behind another
@@ -20,3 +20,12 @@ pub placed_nothing : (area : List ℕ) (p : ℕ) → placed area p [] ≡ area
 placed_nothing area p =
     let same : p + 0 ≡ p = omega arith in
     ap (λ l. l ++ drop (p + 0) area) (append-nil (take p area)) ∙ ap (λ n. take p area ++ drop n area) same ∙ take-append-drop p area
+
+-- one byte in front of what is placed
+pub placed_before : (area xs : List ℕ) (p b : ℕ) → p + 1 + length xs ≤ length area → set (placed area (p + 1) xs) p b ≡ placed area p (b ∷ xs)
+placed_before area xs p b h =
+    let rest = drop (p + 1 + length xs) area in
+    let split : placed area (p + 1) xs ≡ take p area ++ get_or area p 0 ∷ (xs ++ rest) =
+    ap (λ l. l ++ xs ++ rest) (take_more area p 0 (omega arith)) ∙ ap (λ l. l ++ rest) (append_assoc (take p area) (get_or area p 0 ∷ []) xs) ∙ append_assoc (take p area) (get_or area p 0 ∷ xs) rest in
+    let same : drop (p + length (b ∷ xs)) area ≡ rest = ap (λ n. drop n area) (omega arith) in
+    ap (λ l. set l p b) split ∙ set_at (take p area) (get_or area p 0) (xs ++ rest) b p (length-take-le p area (omega arith)) ∙ sym (append_assoc (take p area) (b ∷ xs) (drop (p + length (b ∷ xs)) area) ∙ ap (λ l. take p area ++ b ∷ (xs ++ l)) same)

@@ -15,6 +15,7 @@ pub struct Pen<'a> {
 impl<'a> Pen<'a> {
     ghost use Rattle.areas.specs.Pens.{Puts};
 
+    #[inline]
     pub fn new(area: &'a mut [u8]) -> Pen<'a>
         ensures lent { result.area.ghost_name ≡ area.entry.ghost_name }
         ensures whole { result.area.now ≡ area.old }
@@ -24,6 +25,7 @@ impl<'a> Pen<'a> {
     }
 
     // How many bytes were put.
+    #[inline]
     pub fn len(&self) -> usize
         ensures { result ≡ self.now.len }
     {
@@ -31,6 +33,7 @@ impl<'a> Pen<'a> {
     }
 
     // The bytes that no longer fit leave the area as it was.
+    #[inline]
     pub fn put(&mut self, bytes: &[u8])
         ensures put { Puts self.old bytes.now self.new }
         ensures over { length self.old.area.now < self.old.len + length bytes.now

@@ -24,7 +24,7 @@ impl ShortArea {
     }
 }
 
-// How long a line is: it is put where nothing fits, and the bytes are counted. As in planfile: a public function that measured any telling
+// How long a line is: it is put where nothing fits, and the bytes are counted. A function of its own: a public one that measured any telling
 // would have to require that it may be called.
 fn measured(line: Line) -> usize
     ensures is { result ≡ min (length (text line.entry)) (2 ^ 64 - 1) }
