@@ -1,8 +1,8 @@
 -- A file that is written piece by piece.
-use Rattle.std.proofs.Common.{◌≡◌, ℕ, ◌≤◌, true, false, eqb, List, [], ◌∷◌, ◌++◌, length, drop, Ok, Err, Result, sym, refl, ap, ◌∙◌, subst, arith}
+use Rattle.std.proofs.Common.{◌≡◌, ℕ, ◌+◌, ◌≤◌, true, false, cond, eqb, List, [], ◌∷◌, ◌++◌, length, drop, Ok, Err, Result, sym, refl, ap, ◌∙◌, subst, arith}
 use Rattle.std.specs.List.{flat_map}
 use Rattle.std.proofs.lemmas.List.{take_all, append-nil}
-use Rattle.std.proofs.lemmas.Bool.{true≢false}
+use Rattle.std.proofs.lemmas.Bool.{true≢false, ne_eqb, cond-false}
 use Rattle.plan.specs.Rows.{Task}
 use Rattle.file_parts.specs.declared.settings.Settings.{Settings}
 use Rattle.planfile.specs.Writing.{IsNotWritten, WrittenOrNot, SameBytes, ComesBack}
@@ -36,6 +36,13 @@ no_section (c ∷ cs) e = absurd (omega (arith, e))
 pub some_section : (calls : List ℕ) → eqb (length calls) 0 ≡ false → calls_section calls ≡ section 67 calls
 some_section [] e = absurd (true≢false e)
 some_section (c ∷ cs) e = refl
+
+pub section_length : (calls : List ℕ) → length (calls_section calls) ≡ cond (eqb (length calls) 0) 0 (3 + length calls)
+section_length [] = refl
+section_length (c ∷ cs) =
+    let some : eqb (length (c ∷ cs)) 0 ≡ false = ne_eqb (length (c ∷ cs)) 0 (λ e. omega (arith, e)) in
+    let long : length (calls_section (c ∷ cs)) ≡ 3 + length (c ∷ cs) = omega arith in
+    long ∙ sym (cond-false (eqb (length (c ∷ cs)) 0) 0 (3 + length (c ∷ cs)) some)
 
 -- no file is long: 11 bytes, 1600 of rows, 3, and the calls
 pub written_short : (h : Settings) (ts : List Task) (calls : List ℕ) → Taken ts → length calls ≤ 65535 → length (written h ts calls) ≤ 67149

@@ -1,14 +1,13 @@
 // Writing a plan file.
-ghost use Rattle.std.specs.Prelude.{◌≡◌, ◌≤◌, length, MatchResult};
+ghost use Rattle.std.specs.Prelude.{◌≡◌, ◌+◌, ◌≤◌, length, if◌then◌else◌, MatchResult, nat_eq};
 ghost use Rattle.plan.specs.Views.{tasks};
-ghost use Rattle.file_reader.specs.Meaning.{written};
 ghost use Rattle.planfile.specs.Writing.{WrittenOrNot, ReadsBack, SameBytes, ComesBack};
 ghost use Rattle.file_reader.specs.Readers.{CallsWhole, CallsBroken};
 
-use crate::telling::put_file;
+use crate::telling::{put_file, rows_len};
 use areas::Pen;
-use file_parts::{Fault, NotWritten, Settings};
-use file_reader::{Calls, names_layout};
+use file_parts::{Fault, HEAD, NotWritten, Settings};
+use file_reader::{Calls, HEADER, names_layout};
 use plan::Table;
 
 // The most bytes of calls that a section holds.
@@ -23,14 +22,17 @@ fn test_calls(bytes: &[u8]) -> Result<(), Fault>
     Ok(())
 }
 
-// How long the file is: it is put where nothing fits, and the bytes are counted.
-fn measured(table: &Table, settings: Settings, calls: &[u8]) -> usize
-    requires { length calls.now ≤ 65535 }
-    ensures { result ≡ length (written settings (tasks table.now) calls.now) }
+// How long a file is with so many bytes of rows and of calls.
+fn file_len(rows: usize, calls: usize) -> usize
+    requires { rows + calls ≤ 1000000 }
+    ensures { result ≡ 11 + rows + (if nat_eq calls 0 then 0 else 3 + calls) }
 {
-    let mut pen = Pen::new(&mut []);
-    put_file(&mut pen, table, settings, calls);
-    pen.len()
+    let table = HEADER + HEAD + rows;
+    if calls == 0 {
+        table
+    } else {
+        table + HEAD + calls
+    }
 }
 
 // Writes a plan file to the begin of the area and answers its length. Nothing is written where it is refused.
@@ -52,11 +54,12 @@ pub fn write(
     if calls.len() > LONGEST_CALLS {
         return Err(NotWritten::LongCalls);
     }
-    let len = measured(table, settings, calls);
+    let rows = rows_len(table);
+    let len = file_len(rows as usize, calls.len());
     if area.len() < len {
         return Err(NotWritten::ShortArea);
     }
     let mut pen = Pen::new(area);
-    put_file(&mut pen, table, settings, calls);
+    put_file(&mut pen, table, rows, settings, calls);
     Ok(len)
 }

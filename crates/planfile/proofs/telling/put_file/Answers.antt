@@ -17,7 +17,7 @@ returns-then-not-is_empty c =
     let p = c.args.pen.now in
     let p₃ = c.put_rows.new.pen in
     let p₅ = c.put-then-not-is_empty.new.self in
-    let front = tabled p c.put.new.self c.put_head.new.pen p₃ h rows c.rows_len.result c.rows_len.ensures c.put.ensures.put c.put_head.ensures c.put_rows.ensures in
+    let front = tabled p c.put.new.self c.put_head.new.pen p₃ h rows c.args.rows c.requires.rows c.put.ensures.put c.put_head.ensures c.put_rows.ensures in
     let called = puts_then c.put_head-then-not-is_empty.ensures c.put-then-not-is_empty.ensures.put in
     let all = puts_then front called in
     subst (λ l. Puts p (header h ++ section 84 rows ++ l) p₅) (sym (some_section calls (sym c.if-not-is_empty.ensures))) all
@@ -30,5 +30,5 @@ returns-else-not-is_empty c =
     let p = c.args.pen.now in
     let p₃ = c.put_rows.new.pen in
     let none : length calls ≡ 0 = eqb-true (length calls) 0 (sym c.if-not-is_empty.ensures) in
-    let front = tabled p c.put.new.self c.put_head.new.pen p₃ h rows c.rows_len.result c.rows_len.ensures c.put.ensures.put c.put_head.ensures c.put_rows.ensures in
+    let front = tabled p c.put.new.self c.put_head.new.pen p₃ h rows c.args.rows c.requires.rows c.put.ensures.put c.put_head.ensures c.put_rows.ensures in
     subst (λ bs. Puts p bs p₃) (sym (append-nil (header h ++ section 84 rows)) ∙ ap (λ l. header h ++ section 84 rows ++ l) (sym (no_section calls none))) front
