@@ -1,5 +1,5 @@
 -- The two laws of the semi-partitioned layout.
-use Rattle.std.proofs.Common.{◌≡◌, ℕ, zero, suc, ◌+◌, ◌-◌, ◌*◌, ◌%◌, ◌<◌, ◌≤◌, Bool, true, false, cond, ltb, ◌⊎◌, List, length, Some, None, sym, refl, ap, ◌∙◌, subst, inl, inr, ⊎_elim, arith}
+use Rattle.std.proofs.Common.{◌≡◌, ℕ, zero, suc, ◌+◌, ◌-◌, ◌*◌, ◌%◌, ◌<◌, ◌≤◌, Bool, true, false, cond, if◌then◌else◌, ltb, nat_le, ◌⊎◌, List, length, Some, None, sym, refl, ap, ◌∙◌, subst, inl, inr, ⊎_elim, arith}
 use Rattle.std.proofs.lemmas.List.{get_or_past}
 use Rattle.std.proofs.lemmas.Bool.Decides.{nat_tests}
 use Rattle.std.proofs.lemmas.Bool.{cases_order, cases_lt, ltb-true, ltb-false}
@@ -26,6 +26,12 @@ highest_here f x n h = grind (arith, nat_tests)
 pub highest_lower : (f : ℕ → ℕ) (x n : ℕ) → x < f n → highest f x (suc n) ≡ highest f x n
 unfolding highest
 highest_lower f x n h = grind (arith, nat_tests)
+
+pub highest_same : (f g : ℕ → ℕ) (x n : ℕ) → ((k : ℕ) → k < n → f k ≡ g k) → highest f x n ≡ highest g x n
+unfolding highest
+highest_same f g x zero e = refl
+highest_same f g x (suc n) e =
+    ap (λ y. if nat_le y x then n else highest f x n) (e n (omega arith)) ∙ ap (λ y. if nat_le (g n) x then n else y) (highest_same f g x n (λ k h. e k (omega arith)))
 
 found : (f : ℕ → ℕ) (x n : ℕ) → f 0 ≤ x → x < f n → Found f x n (highest f x n)
 unfolding highest
@@ -116,6 +122,12 @@ module _ (S m : ℕ) (rs : List ℕ) (fit : Fit S m rs) where
       pairs (inr l) (inl o') = absurd (mixed t p' p q o' l)
       pairs (inr l) (inr l') =
           ⊎_elim (λ s. s) (⊎_elim (λ d. absurd (lenders t p p' q d l l')) (λ d. absurd (lenders t p' p q d l' l))) (cases_order p p')
+
+pub one_holder : (S m : ℕ) (rs : List ℕ) (x q q' : ℕ) → Holds S rs m x q → Holds S rs m x q' → q ≡ q'
+one_holder S m rs x q q' h h' = ⊎_elim (λ s. s) (⊎_elim (λ l. lower q q' h h' l) (λ l. sym (lower q' q h' h l))) (cases_order q q')
+  where
+    lower : (q q' : ℕ) → Holds S rs m x q → Holds S rs m x q' → q < q' → q ≡ q'
+    lower q q' h h' l = absurd (omega (arith, h.to, h'.from, before_mono (room S rs) (suc q) q' l))
 
 pub semi_exclusive : (S m T : ℕ) (rs ws : List ℕ) → Fit S m rs → Exclusive (semi S m T rs ws)
 semi_exclusive S m T rs ws fit = record {

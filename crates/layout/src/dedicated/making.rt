@@ -44,8 +44,15 @@ impl Dedicated {
     pub fn fill(&mut self, plan: &Plan) -> Result<(), NotMade>
         ensures { Filled Spacious dedicated_of (planned plan.now) result (dedicated_view self.new) }
     {
-        *self = Dedicated::empty();
-        *self = Dedicated::of(plan)?;
-        Ok(())
+        match Dedicated::of(plan) {
+            Ok(made) => {
+                *self = made;
+                Ok(())
+            }
+            Err(refusal) => {
+                *self = Dedicated::empty();
+                Err(refusal)
+            }
+        }
     }
 }

@@ -32,8 +32,15 @@ impl Flat {
     pub fn fill(&mut self, plan: &Plan) -> Result<(), NotMade>
         ensures { Filled Roomy flat_of (planned plan.now) result (flat_view self.new) }
     {
-        *self = Flat::empty();
-        *self = Flat::of(plan)?;
-        Ok(())
+        match Flat::of(plan) {
+            Ok(made) => {
+                *self = made;
+                Ok(())
+            }
+            Err(refusal) => {
+                *self = Flat::empty();
+                Err(refusal)
+            }
+        }
     }
 }

@@ -36,8 +36,15 @@ impl Semi {
     pub fn fill(&mut self, plan: &Plan) -> Result<(), NotMade>
         ensures { Filled Roomy semi_of (planned plan.now) result (semi_view self.new) }
     {
-        *self = Semi::empty();
-        *self = Semi::of(plan)?;
-        Ok(())
+        match Semi::of(plan) {
+            Ok(made) => {
+                *self = made;
+                Ok(())
+            }
+            Err(refusal) => {
+                *self = Semi::empty();
+                Err(refusal)
+            }
+        }
     }
 }
