@@ -6,14 +6,17 @@ use std::alloc::Global;
 // The bytes of the plan file that a text describes. The loop over lines is plan_report's too, whose reasons are others.
 pub(crate) fn compose(heap: Global, text: &str) -> Result<Vec<u8>, BadLine> {
     let mut draft = Draft::new(heap);
-    for (at, line) in text.lines().enumerate() {
+    // Counted by hand: what the text lacks at its end is a fault of the line after the last.
+    let mut number = 1usize;
+    for line in text.lines() {
         draft.line(line).map_err(|reason| BadLine {
-            line: at.saturating_add(1),
+            line: number,
             reason,
         })?;
+        number = number.saturating_add(1);
     }
     draft.file(heap).map_err(|reason| BadLine {
-        line: text.lines().count().saturating_add(1),
+        line: number,
         reason,
     })
 }

@@ -1,7 +1,7 @@
 // The fields of a line, which spaces and tabs separate.
 use crate::bad_line::Reason;
 
-// The first field, and what follows from the next one on.
+// The first field, and what follows from the next one on. No plainer with `word` of other programs: they split at other letters and trim otherwise.
 pub(crate) fn field(line: &str) -> Result<(&str, &str), Reason> {
     if line.is_empty() {
         return Err(Reason::TooFew);

@@ -73,13 +73,15 @@ fn main(rt: HostRuntime) -> anyhow::Result<ExitCode> {
     let mut text = String::new(rt.alloc());
     rt.stdin().read_to_string(&mut text)?;
     let mut status = ExitCode::SUCCESS;
+    // Counted on the way: a second walk over the lines costs as much as the first where they are comments.
+    let mut trials = 0usize;
     for line in text.lines().filter(is_trial) {
+        trials = trials.saturating_add(1);
         if !tells(rt.alloc(), line)? {
             status = ExitCode::FAILURE;
             println!(rt; "not so: {line}")?;
         }
     }
-    let trials = text.lines().filter(is_trial).count();
     println!(rt; "{trials} trials")?;
     Ok(status)
 }

@@ -16,16 +16,18 @@ impl<L: Layout> Chart<'_, L> {
 
     // A processor's line, with the ticks in use behind it.
     fn line<W: fmt::Write>(&self, processor: u8, f: &mut fmt::Formatter<W>) -> fmt::Result {
+        // Counted while they are drawn: a tick asks the layout once.
+        let mut used = 0u32;
         write!(f, "{processor:>3} |")?;
         for tick in 0..self.slot {
             match self.bin_on(processor, tick) {
-                Some(bin) => write!(f, "{bin}")?,
+                Some(bin) => {
+                    used = used.saturating_add(1);
+                    write!(f, "{bin}")?;
+                }
                 None => f.write_str(".")?,
             }
         }
-        let used = (0..self.slot)
-            .filter(|tick| self.bin_on(processor, *tick).is_some())
-            .count();
         let slot = self.slot;
         writeln!(f, "| {used} of {slot} in use")
     }
