@@ -87,5 +87,8 @@ reads_back h ts cs good taken counted = by cs counted
     }
 
 -- how long the file is
+pub calls_section_length : (bytes : List ℕ) → 1 ≤ length bytes → length (calls_section bytes) ≡ 3 + length bytes
+calls_section_length bytes l = ap length (sym (calls_spelled bytes l)) ∙ omega arith
+
 pub written_length : (h : Settings) (ts : List Task) (calls : List ℕ) → length (written h ts calls) ≡ 11 + length (flat_map row_bytes ts) + length (calls_section calls)
 written_length h ts calls = length-append (header h ++ section 84 (flat_map row_bytes ts)) (calls_section calls) ∙ omega arith

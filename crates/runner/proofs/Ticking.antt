@@ -6,7 +6,7 @@ use Rattle.layout_laws.specs.Meaning.{Meaning, Formed, Exclusive}
 use Rattle.order.specs.Picks.{Least, Picked}
 use Rattle.schedule.specs.Work.{Work}
 use Rattle.schedule.specs.Steps.{Chosen, Row, Advanced}
-use Rattle.schedule.proofs.Filling.{Filled, not_yet, all_done, passes, runs_one}
+use Rattle.schedule.proofs.Filling.{Filled, not_yet, all_done, passes, runs_one, none_done}
 use Rattle.runner.specs.declared.job.Job.{Job}
 use Rattle.runner.specs.Jobs.{none, sooner, to_run, worked, state, Holds, SameBins}
 
@@ -67,6 +67,13 @@ module _ (w : Work) (m : Meaning) (c : ℕ) (js₀ js : List Job) (b : ℕ) (row
 pub record Ran (m : Meaning) (c : ℕ) (js₀ : List Job) (b : ℕ) (row : List ℕ) (js : List Job) : Type 0 where
   pub bins : SameBins js₀ js
   pub filled : (w : Work) → Holds w js₀ → Filled w m (state c js₀) b row (state (c + 1) js)
+
+pub ran_none : (m : Meaning) (c : ℕ) (js : List Job) (row : List ℕ) → length row ≡ m.processors → ((q : ℕ) → get_or row q 255 ≡ 255) → Ran m c js 0 row js
+ran_none m c js row wide blank =
+    record {
+      bins = λ i. refl;
+      filled = λ w h. none_done w m (state c js) row (state (c + 1) js) wide blank refl (λ i. refl) (λ i. refl);
+    }
 
 module _ (m : Meaning) (c : ℕ) (js₀ : List Job) (b : ℕ) (row : List ℕ) (js : List Job) (r : Ran m c js₀ b row js) where
   -- the bin is not served
